@@ -1,0 +1,4 @@
+pub mod Fronts
+pub mod Lines
+pub mod Numbers
+pub mod Writes

@@ -1,0 +1,5 @@
+pub mod Lines
+pub mod Memory
+pub mod Numbers
+pub mod Questions
+pub mod Refusals
