@@ -1,7 +1,7 @@
 -- An item of a plan and its line: the five forms.
 use Prim.Native.Nat.{ℕ, _<_}
 use mathlib.Core.Path.{_≡_}
-use mathlib.Core.Bool.{Bool, true, false, cond}
+use mathlib.Core.Bool.{Bool, false, cond}
 use mathlib.Core.List.{List, [], _∷_, _++_}
 use lib.Chars.{codes}
 use lib.Dec.{eqb}
@@ -59,10 +59,14 @@ readSecond (Some t) = readThird (t .0) (readField (t .1))
 abbrev pub readThree : List ℕ → Option Item
 readThree bs = readSecond (readField bs)
 
--- the item that a line is; its first letter decides the form
+-- the item that a letter and what stands behind it are; the letter decides the form
+abbrev pub readForm : ℕ → List ℕ → Option Item
+readForm b bs = cond (eqb b 67) (readOne Cluster bs) (cond (eqb b 83) (readOne Slots bs) (cond (eqb b 87) (cond (isNewline bs) (Some ReaderWriter) None) (cond (eqb b 84) (readOne Task bs) (cond (eqb b 76) (readThree bs) None))))
+
+-- the item that a line is
 abbrev pub readItem : List ℕ → Option Item
 readItem [] = None
-readItem (b ∷ bs) = cond (eqb b 67) (readOne Cluster bs) (cond (eqb b 83) (readOne Slots bs) (cond (eqb b 87) (cond (isNewline bs) (Some ReaderWriter) None) (cond (eqb b 84) (readOne Task bs) (cond (eqb b 76) (readThree bs) None))))
+readItem (b ∷ bs) = readForm b bs
 
 -- every number of an item has at most five digits
 abbrev pub Writable : Item → Type 0

@@ -10,5 +10,9 @@ pub enum Item {
     /// `T,g`: a task of cluster g.
     Task(u32),
     /// `L,t,r,n`: task t declares length n at resource r.
-    Length { task: u32, resource: u32, ticks: u32 },
+    Length {
+        task: u32,
+        resource: u32,
+        ticks: u32,
+    },
 }

@@ -1,20 +1,24 @@
 ghost use mathlib.Core.Path.{_≡_};
-ghost use mathlib.Core.List.{[], _∷_, _++_};
+ghost use mathlib.Core.List.{_++_};
+ghost use Prim.Native.Nat.{_≤_};
 ghost use lib.ListN.{length};
+ghost use Rattle.std.specs.Written.{decimal};
 ghost use Rattle.text.specs.Memory.{Writes};
+ghost use Rattle.item.specs.declared.item.Item.the-variants.{Length};
 ghost use Rattle.item.specs.Lines.{ending, followed, itemText, ReadsBack};
 ghost use Rattle.item.specs.Writing.{Puts};
 use crate::item::Item;
 use text::memory::write_bytes;
-use text::number::{number_size, write_number};
+use text::number::number_size;
+use text::number::write_number;
 use text::refusal::Refusal;
 
-// The last number of a line and its newline.
-fn put_ending(out: &mut [u8], at: usize, n: u32) -> Result<usize, Refusal>
-    ensures { λ r. ⌜ Puts (now (out .entry)) at (ending n) r (now (out .exit)) ⌝ }
+// A number and the byte behind it.
+fn put_number(out: &mut [u8], at: usize, n: u32, behind: &[u8]) -> Result<usize, Refusal>
+    ensures { λ r. ⌜ Puts (now (out .entry)) at (decimal n ++ now (behind .entry)) r (now (out .exit)) ⌝ }
 {
     let end = write_number(out, at, n)?;
-    write_bytes(out, end, b"\n")
+    write_bytes(out, end, behind)
 }
 
 // A letter with its comma, a number and the newline.
@@ -22,5 +26,89 @@ fn put_one(out: &mut [u8], at: usize, letter: &[u8], n: u32) -> Result<usize, Re
     ensures { λ r. ⌜ Puts (now (out .entry)) at (now (letter .entry) ++ ending n) r (now (out .exit)) ⌝ }
 {
     let end = write_bytes(out, at, letter)?;
-    put_ending(out, end, n)
+    put_number(out, end, n, b"\n")
+}
+
+// The line of a length.
+fn put_length(
+    out: &mut [u8],
+    at: usize,
+    task: u32,
+    resource: u32,
+    ticks: u32,
+) -> Result<usize, Refusal>
+    ensures { λ r. ⌜ Puts (now (out .entry)) at (itemText (Length task resource ticks)) r (now (out .exit)) ⌝ }
+{
+    let first = write_bytes(out, at, b"L,")?;
+    let second = put_number(out, first, task, b",")?;
+    let third = put_number(out, second, resource, b",")?;
+    put_number(out, third, ticks, b"\n")
+}
+
+// The line of an item.
+fn put(item: Item, out: &mut [u8], at: usize) -> Result<usize, Refusal>
+    ensures { λ r. ⌜ Puts (now (out .entry)) at (itemText item) r (now (out .exit)) ⌝ }
+{
+    match item {
+        Item::Cluster(c) => put_one(out, at, b"C,", c),
+        Item::Slots(k) => put_one(out, at, b"S,", k),
+        Item::ReaderWriter => write_bytes(out, at, b"W\n"),
+        Item::Task(g) => put_one(out, at, b"T,", g),
+        Item::Length {
+            task,
+            resource,
+            ticks,
+        } => put_length(out, at, task, resource, ticks),
+    }
+}
+
+// How many bytes the last number of a line and its newline are.
+fn ending_size(n: u32) -> usize
+    ensures size { λ r. ⌜ r ≡ length (ending n) ⌝ }
+    ensures few { λ r. ⌜ r ≤ 11 ⌝ }
+{
+    number_size(n) + 1
+}
+
+// How many bytes the three numbers of a length are, up to the newline.
+fn three_size(task: u32, resource: u32, ticks: u32) -> usize
+    ensures size { λ r. ⌜ r ≡ length (followed task (followed resource (ending ticks))) ⌝ }
+    ensures few { λ r. ⌜ r ≤ 33 ⌝ }
+{
+    ending_size(task) + ending_size(resource) + ending_size(ticks)
+}
+
+// Writes the line of an item where all of it fits.
+fn write_whole(item: Item, out: &mut [u8], at: usize) -> Result<usize, Refusal>
+    ensures { λ r. ⌜ Writes (now (out .entry)) at (itemText item) r (now (out .exit)) ⌝ }
+{
+    if out.len() < at || out.len() - at < item.size() {
+        return Err(Refusal::Memory);
+    }
+    put(item, out, at)
+}
+
+impl Item {
+    /// How many bytes an item is written in.
+    pub fn size(self) -> usize
+        ensures { λ r. ⌜ r ≡ length (itemText self) ⌝ }
+    {
+        match self {
+            Item::Cluster(n) | Item::Slots(n) | Item::Task(n) => 2 + ending_size(n),
+            Item::ReaderWriter => 2,
+            Item::Length {
+                task,
+                resource,
+                ticks,
+            } => 2 + three_size(task, resource, ticks),
+        }
+    }
+
+    /// Writes an item's line at a place, and answers the place behind it.
+    pub fn write(self, out: &mut [u8], at: usize) -> Result<usize, Refusal>
+        ensures writes { λ r. ⌜ Writes (now (out .entry)) at (itemText self) r (now (out .exit)) ⌝ }
+        ensures back { λ _. ⌜ ReadsBack self ⌝ }
+    {
+        write_whole(self, out, at)
+    }
 }

@@ -29,8 +29,8 @@ cuts-line s n e =
     ⊎-elim
     (λ lt. let m : n ≡ beforeNewline s + 1 = omega arith in subst (λ k. CutsLine s (take k s) (drop k s)) (sym m) (cuts-behind s))
     (λ le.
-        let m : n ≡ length s = omega arith in
-        let t : take (beforeNewline s + 1) s ≡ take n s = take-all _ s (omega arith) ∙ sym (take-all n s (omega arith)) in
-        let d : drop (beforeNewline s + 1) s ≡ drop n s = drop-all _ s (omega arith) ∙ sym (drop-all n s (omega arith)) in
-        subst (λ y. CutsLine s (take n s) y) d (subst (λ x. CutsLine s x (drop (beforeNewline s + 1) s)) t (cuts-behind s)))
+    let m : n ≡ length s = omega arith in
+    let t : take (beforeNewline s + 1) s ≡ take n s = take-all _ s (omega arith) ∙ sym (take-all n s (omega arith)) in
+    let d : drop (beforeNewline s + 1) s ≡ drop n s = drop-all _ s (omega arith) ∙ sym (drop-all n s (omega arith)) in
+    subst (λ y. CutsLine s (take n s) y) d (subst (λ x. CutsLine s x (drop (beforeNewline s + 1) s)) t (cuts-behind s)))
     (cases-lt (beforeNewline s + 1) (length s))

@@ -30,15 +30,17 @@ head-digits : (xs : List ℕ) → allDigits (take (leading asciiDigit xs) xs) �
 head-digits [] = refl
 head-digits (x ∷ xs) =
     elim (asciiDigit x) as (λ b. asciiDigit x ≡ b → allDigits (take (cond b (1 + leading asciiDigit xs) 0) (x ∷ xs)) ≡ true) [
-      true ↦ λ e. rw one-add (and-from (asciiDigit x) _ e (head-digits xs))
-    | false ↦ λ e. refl ] refl
+      | true ↦ λ e. rw one-add (and-from (asciiDigit x) _ e (head-digits xs))
+      | false ↦ λ e. refl
+    ] refl
 
 rest-no-digit : (xs : List ℕ) → noDigit (drop (leading asciiDigit xs) xs) ≡ true
 rest-no-digit [] = refl
 rest-no-digit (x ∷ xs) =
     elim (asciiDigit x) as (λ b. asciiDigit x ≡ b → noDigit (drop (cond b (1 + leading asciiDigit xs) 0) (x ∷ xs)) ≡ true) [
-      true ↦ λ e. rw one-add (rest-no-digit xs)
-    | false ↦ λ e. not-from-false _ e ] refl
+      | true ↦ λ e. rw one-add (rest-no-digit xs)
+      | false ↦ λ e. not-from-false _ e
+    ] refl
 
 leading-front : (ds rest : List ℕ) → allDigits ds ≡ true → noDigit rest ≡ true → leading asciiDigit (ds ++ rest) ≡ length ds
 leading-front [] [] d e = refl
@@ -70,10 +72,10 @@ zero-alone n rest small =
     ⊎-elim
     (λ z. or-right _ _ (eq-eqb _ 1 (ap length (decimal-digit n (omega arith)))))
     (λ nz.
-        let far : n < 2 ^ 64 = omega arith in
-        let first : getD (decimal n ++ rest) 0 0 ≡ getD (decimal n) 0 0 = getD-append-left (decimal n) rest 0 0 (decimal-some n far) in
-        let big : 48 < getD (decimal n) 0 0 = first-decimal n (omega arith) far in
-        or-left _ _ (not-from-false _ (ne-eqb (getD (decimal n ++ rest) 0 0) 48 (λ e. omega arith))))
+    let far : n < 2 ^ 64 = omega arith in
+    let first : getD (decimal n ++ rest) 0 0 ≡ getD (decimal n) 0 0 = getD-append-left (decimal n) rest 0 0 (decimal-some n far) in
+    let big : 48 < getD (decimal n) 0 0 = first-decimal n (omega arith) far in
+    or-left _ _ (not-from-false _ (ne-eqb (getD (decimal n ++ rest) 0 0) 48 (λ e. omega arith))))
     (cases-eq n 0)
 
 pub reads-back : (n : ℕ) → ReadsBack n
