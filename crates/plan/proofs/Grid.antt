@@ -8,8 +8,10 @@ use native.Mathlib.Omega.{arith}
 use native.Mathlib.Numerals.{add-one}
 use native.Mathlib.Nat.{add-zero, zero-add}
 use lib.Dec.{eqb, ltb, leb}
-use lib.ListN.{length, getD, set, replicate}
+use lib.ListN.{length, getD, set, take, replicate}
 use Rattle.std.specs.Options.{valueOr}
+use Rattle.std.specs.shelf.Lists.{All}
+use Rattle.std.proofs.shelf.Elements.{all-has, has-append-right, has-getD}
 use Rattle.std.proofs.shelf.Lists.{ext-getD}
 use Rattle.std.specs.declared.option.Option.{Option}
 use Rattle.std.specs.declared.option.Option.the-variants.{Some, None}
@@ -166,3 +168,62 @@ same-lengths xs ys long e =
 pub same-end : (xs : List ℕ) (m n : ℕ) → ((k : ℕ) → m ≤ k → getD xs k 0 ≡ 0) → (0 < m → 0 < getD xs (m - 1) 0) → ((k : ℕ) → n ≤ k → getD xs k 0 ≡ 0) → (0 < n → 0 < getD xs (n - 1) 0) → m ≡ n
 same-end xs m n bm em bn en =
     ⊎-elim (λ e. e) (λ o. ⊎-elim (λ l. absurd (omega (arith, bm (n - 1) (omega arith), en (omega arith)))) (λ l. absurd (omega (arith, bn (m - 1) (omega arith), em (omega arith)))) o) (cases-order m n)
+
+-- each length stands below all behind it
+abbrev pub Rising : List Declared → Type 0
+Rising [] = Unit {0}
+Rising (d ∷ ds) = All (λ e. below d (e .task) (e .resource) ≡ true) ds × Rising ds
+
+below-later : (k n j m : ℕ) → k < j → below (placed k n) (placed j m .task) (placed j m .resource) ≡ true
+below-later k n j m l = grind (arith, tells)
+
+below-rest : (k n j : ℕ) (xs : List ℕ) → k < j → All (λ e. below (placed k n) (e .task) (e .resource) ≡ true) (declared j xs)
+below-rest k n j [] l = tt
+below-rest k n j (x ∷ xs) l =
+    let more = below-rest k n (j + 1) xs (omega arith) in
+    ⊎-elim (λ z. rw (declared-no j x xs z) more) (λ p. rw (declared-yes j x xs p) (below-later k n j x l, more)) (zero-or-more x)
+
+pub declared-rising : (k : ℕ) (xs : List ℕ) → Rising (declared k xs)
+declared-rising k [] = tt
+declared-rising k (x ∷ xs) =
+    ⊎-elim (λ z. rw (declared-no k x xs z) (declared-rising (k + 1) xs)) (λ p. rw (declared-yes k x xs p) (below-rest k x (k + 1) xs (omega arith), declared-rising (k + 1) xs)) (zero-or-more x)
+
+-- a length of a rising row stands above those before it
+pub above-front : (before : List Declared) (d : Declared) (behind : List Declared) → Rising (before ++ (d ∷ behind)) → above before (d .task) (d .resource) ≡ true
+above-front [] d behind h = refl
+above-front (b ∷ bs) d behind h = and-from _ _ (all-has _ (bs ++ (d ∷ behind)) d (h .0) (has-append-right bs (d ∷ behind) d (has-getD (d ∷ behind) 0 d (omega arith)))) (above-front bs d behind (h .1))
+
+-- what holds of each used place holds of each declared length
+pub declared-all : (P : Declared → Type 0) (k : ℕ) (xs : List ℕ) → ((j : ℕ) → 0 < getD xs j 0 → P (placed (k + j) (getD xs j 0))) → All P (declared k xs)
+declared-all P k [] h = tt
+declared-all P k (x ∷ xs) h =
+    let more : All P (declared (k + 1) xs) = declared-all P (k + 1) xs (λ j g. let e : (k + 1) + j ≡ k + suc j = omega arith in rw e (h (suc j) g)) in
+    ⊎-elim (λ z. rw (declared-no k x xs z) more) (λ p. rw (declared-yes k x xs p) (let first : P (placed (k + 0) x) = h 0 p in rw add-zero at first, more)) (zero-or-more x)
+
+pub declared-few : (k : ℕ) (xs : List ℕ) → length (declared k xs) ≤ length xs
+declared-few k [] = omega arith
+declared-few k (x ∷ xs) =
+    let more = declared-few (k + 1) xs in
+    ⊎-elim (λ z. rw (declared-no k x xs z) (omega arith)) (λ p. rw (declared-yes k x xs p) (omega arith)) (zero-or-more x)
+
+-- one more place of the table
+abbrev pub heldAt : ℕ → ℕ → List Declared
+heldAt k n = cond (eqb n 0) [] (placed k n ∷ [])
+
+pub declared-more : (k : ℕ) (xs : List ℕ) (i : ℕ) → i < length xs → declared k (take (i + 1) xs) ≡ declared k (take i xs) ++ heldAt (k + i) (getD xs i 0)
+declared-more k [] i l = absurd (omega arith)
+declared-more k (x ∷ xs) zero l =
+    let e : k + 0 ≡ k = add-zero k in
+    ⊎-elim
+    (λ z. declared-no k x [] z ∙ sym (cond-true (eqb x 0) _ _ (eq-eqb x 0 z)))
+    (λ p. declared-yes k x [] p ∙ (ap (λ j. placed j x ∷ []) (sym e) ∙ sym (cond-false (eqb x 0) _ _ (ne-eqb x 0 (λ n. omega arith)))))
+    (zero-or-more x)
+declared-more k (x ∷ xs) (suc i) l =
+    let s : suc i + 1 ≡ suc (i + 1) = omega arith in
+    let e : (k + 1) + i ≡ k + suc i = omega arith in
+    let more : declared (k + 1) (take (i + 1) xs) ≡ declared (k + 1) (take i xs) ++ heldAt (k + suc i) (getD xs i 0) = declared-more (k + 1) xs i (omega arith) ∙ ap (λ j. declared (k + 1) (take i xs) ++ heldAt j (getD xs i 0)) e in
+    rw s
+    (⊎-elim
+    (λ z. declared-no k x (take (i + 1) xs) z ∙ (more ∙ ap (λ ds. ds ++ heldAt (k + suc i) (getD xs i 0)) (sym (declared-no k x (take i xs) z))))
+    (λ p. declared-yes k x (take (i + 1) xs) p ∙ (ap (λ ds. placed k x ∷ ds) more ∙ ap (λ ds. ds ++ heldAt (k + suc i) (getD xs i 0)) (sym (declared-yes k x (take i xs) p))))
+    (zero-or-more x))

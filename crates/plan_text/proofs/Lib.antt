@@ -1,0 +1,4 @@
+pub mod Image
+pub mod Items
+pub mod Reading
+pub mod Writing
