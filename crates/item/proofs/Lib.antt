@@ -1,3 +1,2 @@
 pub mod Heads
 pub mod Lines
-pub mod Writing

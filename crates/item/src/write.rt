@@ -3,30 +3,21 @@ ghost use mathlib.Core.List.{_++_};
 ghost use Prim.Native.Nat.{_≤_};
 ghost use lib.ListN.{length};
 ghost use Rattle.std.specs.Written.{decimal};
-ghost use Rattle.text.specs.Memory.{Writes};
+ghost use Rattle.text.specs.Memory.{Writes, Puts};
 ghost use Rattle.item.specs.declared.item.Item.the-variants.{Length};
 ghost use Rattle.item.specs.Lines.{ending, followed, itemText, ReadsBack};
-ghost use Rattle.item.specs.Writing.{Puts};
 use crate::item::Item;
 use text::memory::write_bytes;
 use text::number::number_size;
-use text::number::write_number;
+use text::number::write_field;
 use text::refusal::Refusal;
-
-// A number and the byte behind it.
-fn put_number(out: &mut [u8], at: usize, n: u32, behind: &[u8]) -> Result<usize, Refusal>
-    ensures { λ r. ⌜ Puts (now (out .entry)) at (decimal n ++ now (behind .entry)) r (now (out .exit)) ⌝ }
-{
-    let end = write_number(out, at, n)?;
-    write_bytes(out, end, behind)
-}
 
 // A letter with its comma, a number and the newline.
 fn put_one(out: &mut [u8], at: usize, letter: &[u8], n: u32) -> Result<usize, Refusal>
     ensures { λ r. ⌜ Puts (now (out .entry)) at (now (letter .entry) ++ ending n) r (now (out .exit)) ⌝ }
 {
     let end = write_bytes(out, at, letter)?;
-    put_number(out, end, n, b"\n")
+    write_field(out, end, n as u64, b"\n")
 }
 
 // The line of a length.
@@ -40,9 +31,9 @@ fn put_length(
     ensures { λ r. ⌜ Puts (now (out .entry)) at (itemText (Length task resource ticks)) r (now (out .exit)) ⌝ }
 {
     let first = write_bytes(out, at, b"L,")?;
-    let second = put_number(out, first, task, b",")?;
-    let third = put_number(out, second, resource, b",")?;
-    put_number(out, third, ticks, b"\n")
+    let second = write_field(out, first, task as u64, b",")?;
+    let third = write_field(out, second, resource as u64, b",")?;
+    write_field(out, third, ticks as u64, b"\n")
 }
 
 // The line of an item.
@@ -67,7 +58,7 @@ fn ending_size(n: u32) -> usize
     ensures size { λ r. ⌜ r ≡ length (ending n) ⌝ }
     ensures few { λ r. ⌜ r ≤ 11 ⌝ }
 {
-    number_size(n) + 1
+    number_size(n as u64) + 1
 }
 
 // How many bytes the three numbers of a length are, up to the newline.

@@ -1,5 +1,6 @@
 pub mod Fronts
 pub mod Lines
 pub mod Numbers
+pub mod Puts
 pub mod Questions
 pub mod Writes

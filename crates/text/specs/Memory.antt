@@ -23,3 +23,8 @@ fitQuestions old at bytes = ask 23 (leb (at + length bytes) (length old)) ∷ []
 abbrev pub Writes : List ℕ → ℕ → List ℕ → Result ℕ Refusal → List ℕ → Type 0
 Writes old at bytes (Ok end) new = (firstNo (fitQuestions old at bytes) ≡ None) × (end ≡ at + length bytes) × (new ≡ overlay old at bytes)
 Writes old at bytes (Err why) new = (firstNo (fitQuestions old at bytes) ≡ Some (number why)) × (new ≡ old)
+
+-- the same where bytes are put one part after another: an early refusal may leave some of them written
+abbrev pub Puts : List ℕ → ℕ → List ℕ → Result ℕ Refusal → List ℕ → Type 0
+Puts old at bytes (Ok end) new = (firstNo (fitQuestions old at bytes) ≡ None) × (end ≡ at + length bytes) × (new ≡ overlay old at bytes)
+Puts old at bytes (Err why) new = firstNo (fitQuestions old at bytes) ≡ Some (number why)

@@ -1,5 +1,6 @@
 ghost use mathlib.Core.Path.{_≡_};
 ghost use mathlib.Core.Bool.{true};
+ghost use mathlib.Core.List.{_++_};
 ghost use Prim.Native.Nat.{ℕ, _+_, _<_, _≤_};
 ghost use lib.ListN.{length, getD, drop};
 ghost use Rattle.std.specs.Text.{asciiDigit};
@@ -7,7 +8,8 @@ ghost use Rattle.std.specs.shelf.Lists.{leading};
 ghost use Rattle.std.specs.Written.{decimal};
 ghost use Rattle.std.specs.declared.option.Option.the-variants.{Some, None};
 ghost use Rattle.text.specs.Numbers.{valueOf, readNumber, IsWritten, ReadsBack};
-ghost use Rattle.text.specs.Memory.{overlay, Writes};
+ghost use Rattle.text.specs.Memory.{overlay, Writes, Puts};
+use crate::memory::write_bytes;
 use crate::refusal::Refusal;
 
 // How many digits stand at the head of a text.
@@ -71,21 +73,21 @@ pub fn read_number(s: &[u8]) -> Option<(u32, &[u8])>
 }
 
 // How many digits a number has.
-fn width(n: u32) -> usize
+fn width(n: u64) -> usize
     ensures { λ r. ⌜ r ≡ length (decimal n) ⌝ }
 {
     if n < 10 { 1 } else { width(n / 10) + 1 }
 }
 
 /// How many bytes a number is written in.
-pub fn number_size(n: u32) -> usize
+pub fn number_size(n: u64) -> usize
     ensures { λ r. ⌜ r ≡ length (decimal n) ⌝ }
 {
     width(n)
 }
 
 // Puts a number's digits at a place where they fit, and answers the place behind them.
-fn put_digits(out: &mut [u8], at: usize, n: u32) -> usize
+fn put_digits(out: &mut [u8], at: usize, n: u64) -> usize
     requires { ⌜ at + length (decimal n) ≤ length (now out) ⌝ }
     ensures end { λ r. ⌜ r ≡ at + length (decimal n) ⌝ }
     ensures text { λ _. ⌜ now (out .exit) ≡ overlay (now (out .entry)) at (decimal n) ⌝ }
@@ -101,7 +103,7 @@ fn put_digits(out: &mut [u8], at: usize, n: u32) -> usize
 }
 
 // Writes a number's digits at a place where they fit.
-fn put_number(out: &mut [u8], at: usize, n: u32) -> Result<usize, Refusal>
+fn put_number(out: &mut [u8], at: usize, n: u64) -> Result<usize, Refusal>
     ensures { λ r. ⌜ Writes (now (out .entry)) at (decimal n) r (now (out .exit)) ⌝ }
 {
     if out.len() < at || out.len() - at < width(n) {
@@ -111,9 +113,34 @@ fn put_number(out: &mut [u8], at: usize, n: u32) -> Result<usize, Refusal>
 }
 
 /// Writes a number's digits at a place, and answers the place behind them.
-pub fn write_number(out: &mut [u8], at: usize, n: u32) -> Result<usize, Refusal>
+pub fn write_number(out: &mut [u8], at: usize, n: u64) -> Result<usize, Refusal>
     ensures writes { λ r. ⌜ Writes (now (out .entry)) at (decimal n) r (now (out .exit)) ⌝ }
     ensures back { λ _. ⌜ ReadsBack n ⌝ }
 {
     put_number(out, at, n)
+}
+
+// A number and the bytes behind it, as far as they fit.
+fn put_field(out: &mut [u8], at: usize, n: u64, behind: &[u8]) -> Result<usize, Refusal>
+    ensures { λ r. ⌜ Puts (now (out .entry)) at (decimal n ++ now (behind .entry)) r (now (out .exit)) ⌝ }
+{
+    let end = put_number(out, at, n)?;
+    write_bytes(out, end, behind)
+}
+
+// How many bytes a number and the bytes behind it are.
+fn field_size(n: u64, behind: &[u8]) -> usize
+    ensures { λ r. ⌜ r ≡ length (decimal n ++ now (behind .entry)) ⌝ }
+{
+    width(n) + behind.len()
+}
+
+/// Writes a number and the bytes behind it at a place, and answers the place behind them.
+pub fn write_field(out: &mut [u8], at: usize, n: u64, behind: &[u8]) -> Result<usize, Refusal>
+    ensures { λ r. ⌜ Writes (now (out .entry)) at (decimal n ++ now (behind .entry)) r (now (out .exit)) ⌝ }
+{
+    if out.len() < at || out.len() - at < field_size(n, behind) {
+        return Err(Refusal::Memory);
+    }
+    put_field(out, at, n, behind)
 }

@@ -7,11 +7,10 @@ use lib.ListN.{length, length-append}
 use Rattle.std.specs.declared.result.Result.{Result}
 use Rattle.std.specs.declared.result.Result.the-variants.{Ok, Err}
 use Rattle.std.proofs.shelf.Ways.{tells}
-use Rattle.text.specs.Memory.{overlay, fitQuestions, Writes}
+use Rattle.text.specs.Memory.{overlay, fitQuestions, Writes, Puts}
 use Rattle.text.specs.Questions.{firstNo}
 use Rattle.text.specs.declared.refusal.Refusal.{Refusal}
 use Rattle.text.proofs.Writes.{overlay-more, length-overlay}
-use Rattle.item.specs.Writing.{Puts}
 
 -- more bytes behind those that were put
 module _ (old : List ℕ) (at : ℕ) (a b : List ℕ) (end : ℕ) (mid : List ℕ) where
