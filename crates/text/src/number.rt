@@ -132,7 +132,7 @@ fn put_field(out: &mut [u8], at: usize, n: u64, behind: &[u8]) -> Result<usize, 
 fn field_size(n: u64, behind: &[u8]) -> usize
     ensures { λ r. ⌜ r ≡ length (decimal n ++ now (behind .entry)) ⌝ }
 {
-    width(n) + behind.len()
+    number_size(n) + behind.len()
 }
 
 /// Writes a number and the bytes behind it at a place, and answers the place behind them.

@@ -1,10 +1,18 @@
 ghost use mathlib.Core.Path.{_≡_};
 ghost use mathlib.Core.List.{List, [], _++_};
-ghost use Prim.Native.Nat.{ℕ};
+ghost use Prim.Native.Nat.{ℕ, _-_, _≤_, min};
 ghost use lib.ListN.{take};
 ghost use Rattle.dry_run.specs.Inputs.{kept, Fed};
 use crate::input::Input;
 use text::memory::write_bytes;
+
+// How many of n bytes there is room for behind those that are kept.
+fn room(size: usize, n: usize) -> usize
+    requires { ⌜ size ≤ 16384 ⌝ }
+    ensures { λ r. ⌜ r ≡ min n (16384 - size) ⌝ }
+{
+    n.min(16384 - size)
+}
 
 impl Input {
     /// An input of which nothing has come.
@@ -21,8 +29,7 @@ impl Input {
     fn keep(&mut self, chunk: &[u8])
         ensures { λ _. ⌜ kept (now (self .exit)) ≡ take 16384 (kept (now (self .entry)) ++ now (chunk .entry)) ⌝ }
     {
-        let room = 16384 - self.size;
-        let taken = chunk.len().min(room);
+        let taken = room(self.size, chunk.len());
         if let Ok(end) = write_bytes(&mut self.text, self.size, &chunk[0..taken]) {
             self.size = end;
         }

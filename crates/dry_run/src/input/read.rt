@@ -2,6 +2,7 @@ ghost use mathlib.Core.Path.{_≡_};
 ghost use mathlib.Core.Bool.{true};
 ghost use mathlib.Core.List.{List, _++_};
 ghost use Prim.Native.Nat.{ℕ, _≤_};
+ghost use lib.Dec.{leb};
 ghost use lib.ListN.{length, take};
 ghost use Rattle.std.specs.declared.option.Option.the-variants.{Some, None};
 ghost use Rattle.dry_run.specs.Inputs.{kept, Fed};
@@ -45,6 +46,13 @@ fn read_part(input: &[u8], into: &mut Plan) -> Result<(), Refused>
     }
 }
 
+// Whether as many bytes have come as count.
+fn is_full(size: usize) -> bool
+    ensures { λ r. ⌜ r ≡ leb 16384 size ⌝ }
+{
+    size >= 16384
+}
+
 // Whether an empty line or the last byte that counts has come.
 fn is_enough(input: &[u8]) -> bool
     requires { ⌜ length (now input) ≤ 16384 ⌝ }
@@ -52,7 +60,7 @@ fn is_enough(input: &[u8]) -> bool
 {
     match plan_size(input) {
         Some(_) => true,
-        None => input.len() >= 16384,
+        None => is_full(input.len()),
     }
 }
 

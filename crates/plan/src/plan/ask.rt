@@ -42,16 +42,25 @@ fn longest_length(tables: &Tables, resource: usize) -> u16
     longest
 }
 
+// The tables of the smallest plan.
+fn smallest_tables() -> Tables
+    ensures { λ r. ⌜ contentsOf r ≡ smallest ⌝ }
+{
+    let mut tables = Tables::new();
+    tables.store_cluster(1);
+    tables.store_slots(1);
+    tables.store_task(0);
+    tables
+}
+
 impl Plan {
     /// The smallest plan: `C,1` `S,1` `T,0`.
     pub fn new() -> Plan
         ensures { λ r. ⌜ planContents r ≡ smallest ⌝ }
     {
-        let mut tables = Tables::new();
-        tables.store_cluster(1);
-        tables.store_slots(1);
-        tables.store_task(0);
-        Plan { tables }
+        Plan {
+            tables: smallest_tables(),
+        }
     }
 
     /// How many clusters there are.

@@ -1,7 +1,8 @@
 ghost use mathlib.Core.Path.{_≡_};
 ghost use mathlib.Core.Bool.{true};
+ghost use mathlib.Core.List.{[]};
 ghost use Prim.Native.Nat.{_+_, _*_, _≤_, _<_};
-ghost use lib.ListN.{take};
+ghost use lib.ListN.{take, replicate};
 ghost use Rattle.std.specs.declared.option.Option.the-variants.{Some, None};
 ghost use Rattle.std.specs.declared.result.Result.the-variants.{Ok, Err};
 ghost use Rattle.std.specs.shelf.Lists.{sum};
@@ -11,7 +12,7 @@ ghost use Rattle.text.specs.Refusals.{number};
 ghost use Rattle.plan.specs.Adding.{empty, none, below, above, added, inOrder, inLimits, hasRoom, itemQuestions};
 ghost use Rattle.plan.specs.Contents.{processors};
 ghost use Rattle.plan.specs.Drafts.{TakesLine};
-ghost use Rattle.plan.specs.Of.{placed, contentsOf};
+ghost use Rattle.plan.specs.Of.{placed, declared, contentsOf};
 use crate::tables::Tables;
 use item::item::Item;
 use text::refusal::Refusal;
@@ -24,9 +25,10 @@ fn is_below(place: u32, task: u32, resource: u32) -> bool
 }
 
 impl Tables {
-    /// Tables with nothing in them.
-    pub fn new() -> Tables
-        ensures { λ r. ⌜ contentsOf r ≡ empty ⌝ }
+    // Tables with nothing in them, over a place of the lengths where none is declared.
+    fn bare(lengths: [u16; 1024]) -> Tables
+        requires { ⌜ lengths ≡ replicate 1024 0 ⌝ }
+        ensures { λ r. ⌜ contentsOf r ≡ record { clusters = []; slots = []; readerWriters = 0; tasks = []; lengths = declared 0 lengths } ⌝ }
     {
         Tables {
             clusters: [0; 8],
@@ -36,9 +38,16 @@ impl Tables {
             reader_writers: 0,
             tasks: [0; 64],
             task_count: 0,
-            lengths: [0; 1024],
+            lengths,
             lengths_end: 0,
         }
+    }
+
+    /// Tables with nothing in them.
+    pub fn new() -> Tables
+        ensures { λ r. ⌜ contentsOf r ≡ empty ⌝ }
+    {
+        Tables::bare([0; 1024])
     }
 
     // The processors of all clusters.
