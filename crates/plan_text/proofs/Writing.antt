@@ -24,26 +24,11 @@ use Rattle.plan.specs.declared.resource.Resource.{Resource}
 use Rattle.plan.specs.declared.resource.Resource.the-variants.{Slots as SlotsFor, ReaderWriter as OneWriter}
 use Rattle.plan.proofs.Grid.{held, heldAt, length-held, declared-more}
 use Rattle.plan.proofs.Lawful.{Lawful, lawful}
-use Rattle.text.specs.Memory.{overlay}
-use Rattle.text.proofs.Writes.{overlay-none, overlay-more}
+use Rattle.text.specs.Memory.{Lays}
+use Rattle.text.proofs.Lays.{lays-more}
 use Rattle.plan_text.specs.Texts.{rowText, planText}
-use Rattle.plan_text.specs.Writing.{Lays, clusterItems, resourceItems, kindItem, taskItems, lengthItems, placeText}
+use Rattle.plan_text.specs.Writing.{clusterItems, resourceItems, kindItem, taskItems, lengthItems, placeText}
 use Rattle.plan_text.proofs.Image.{joined-append, all-writable}
-
-pub lays-none : (old : List ℕ) (at : ℕ) → Lays old at [] at old
-lays-none old at = record { place = sym (add-zero at); size = refl; text = λ h. sym (overlay-none old at) }
-
-pub lays-more : (old : List ℕ) (at : ℕ) (a : List ℕ) (middle : ℕ) (mid b : List ℕ) (end : ℕ) (new : List ℕ) → Lays old at a middle mid → Lays mid middle b end new → Lays old at (a ++ b) end new
-lays-more old at a middle mid b end new f g =
-    let size = length-append a b in
-    record {
-      place = omega (arith, f .place, g .place);
-      size = g .size ∙ f .size;
-      text = λ h.
-          let here : mid ≡ overlay old at a = f .text (omega arith) in
-          let more : new ≡ overlay mid middle b = g .text (omega (arith, f .size, f .place)) in
-          more ∙ (ap (λ m. overlay m middle b) here ∙ (ap (λ k. overlay (overlay old at a) k b) (f .place) ∙ overlay-more old at a b (omega arith)));
-    }
 
 -- the text of a row, one item on
 row-more : (is : List Item) (i : ℕ) (item : Item) → i < length is → item ≡ getD is i ReaderWriter → rowText (take (i + 1) is) ≡ rowText (take i is) ++ itemText item

@@ -1,4 +1,4 @@
--- Bytes laid one after another into memory, which need not be there.
+-- The items of a plan, table by table, as the writer lays them.
 use Prim.Native.Nat.{ℕ, _+_, _/_, _%_, _≤_}
 use mathlib.Core.Path.{_≡_}
 use mathlib.Core.List.{List, [], _++_, map}
@@ -11,13 +11,6 @@ use Rattle.item.specs.declared.item.Item.the-variants.{Cluster, Slots, ReaderWr
 use Rattle.plan.specs.Contents.{Contents, lengthAt, lengthItem}
 use Rattle.plan.specs.declared.resource.Resource.{Resource}
 use Rattle.plan.specs.declared.resource.Resource.the-variants.{Slots as SlotsFor, ReaderWriter as OneWriter}
-use Rattle.text.specs.Memory.{overlay}
-
--- the answer is the place behind the bytes; where they fit, they are written and nothing else changes
-pub record Lays (old : List ℕ) (at : ℕ) (bytes : List ℕ) (end : ℕ) (new : List ℕ) : Type 0 where
-  pub place : end ≡ at + length bytes
-  pub size : length new ≡ length old
-  pub text : at + length bytes ≤ length old → new ≡ overlay old at bytes
 
 -- the items of each table
 abbrev pub clusterItems : Contents → List Item

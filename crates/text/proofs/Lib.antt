@@ -1,4 +1,5 @@
 pub mod Fronts
+pub mod Lays
 pub mod Lines
 pub mod Numbers
 pub mod Puts

@@ -1,5 +1,5 @@
 -- Bytes written into memory that the caller hands in.
-use Prim.Native.Nat.{ℕ, _+_}
+use Prim.Native.Nat.{ℕ, _+_, _≤_}
 use mathlib.Core.Path.{_≡_}
 use mathlib.Core.List.{List, [], _∷_, _++_}
 use lib.ListN.{length, take, drop}
@@ -28,3 +28,10 @@ Writes old at bytes (Err why) new = (firstNo (fitQuestions old at bytes) ≡ Som
 abbrev pub Puts : List ℕ → ℕ → List ℕ → Result ℕ Refusal → List ℕ → Type 0
 Puts old at bytes (Ok end) new = (firstNo (fitQuestions old at bytes) ≡ None) × (end ≡ at + length bytes) × (new ≡ overlay old at bytes)
 Puts old at bytes (Err why) new = firstNo (fitQuestions old at bytes) ≡ Some (number why)
+
+-- bytes laid one after another into memory that need not be there:
+-- the answer is the place behind the bytes; where they fit, they are written and nothing else changes
+pub record Lays (old : List ℕ) (at : ℕ) (bytes : List ℕ) (end : ℕ) (new : List ℕ) : Type 0 where
+  pub place : end ≡ at + length bytes
+  pub size : length new ≡ length old
+  pub text : at + length bytes ≤ length old → new ≡ overlay old at bytes

@@ -1,7 +1,8 @@
 use lib.ListN.{take}
 use Rattle.plan.specs.Of.{planContents}
 use Rattle.plan_text.specs.Texts.{rowText}
-use Rattle.plan_text.specs.Writing.{Lays, clusterItems}
+use Rattle.plan_text.specs.Writing.{clusterItems}
+use Rattle.text.specs.Memory.{Lays}
 use Rattle.plan_text.proofs.write.lay_clusters.Given as given
 
 abbrev pub Inv-loop-cluster : given.InvT-loop-cluster

@@ -1,6 +1,7 @@
 use mathlib.Core.Path.{ap, subst}
-use Rattle.plan_text.specs.Writing.{Lays, placeText}
-use Rattle.plan_text.proofs.Writing.{lays-none}
+use Rattle.plan_text.specs.Writing.{placeText}
+use Rattle.text.proofs.Lays.{lays-none}
+use Rattle.text.specs.Memory.{Lays}
 use Rattle.plan_text.proofs.write.lay_length.Needs as need
 
 pub returns-in-None : need.returns-in-None

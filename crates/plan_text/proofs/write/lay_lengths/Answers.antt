@@ -2,7 +2,8 @@ use Prim.Native.Nat.{_≤_, _<_}
 use native.Mathlib.Omega.{arith}
 use lib.ListN.{length}
 use Rattle.std.proofs.shelf.Lists.{take-all}
-use Rattle.plan_text.proofs.Writing.{lays-none, place-fits, lays-place}
+use Rattle.plan_text.proofs.Writing.{place-fits, lays-place}
+use Rattle.text.proofs.Lays.{lays-none}
 use Rattle.plan_text.proofs.write.lay_lengths.Needs as need
 
 pub loop-place-holds : need.loop-place-holds

@@ -1,4 +1,4 @@
-use Rattle.plan_text.specs.Writing.{Lays}
+use Rattle.text.specs.Memory.{Lays}
 use Rattle.plan_text.proofs.Writing.{placesText}
 use Rattle.plan_text.proofs.write.lay_lengths.Given as given
 

@@ -6,7 +6,8 @@ use lib.ListN.{length, length-append}
 use Rattle.plan.specs.Of.{planContents}
 use Rattle.plan_text.specs.Texts.{rowText, planText}
 use Rattle.plan_text.specs.Writing.{clusterItems, resourceItems, taskItems, lengthItems}
-use Rattle.plan_text.proofs.Writing.{lays-more, text-short, plan-parts, parts-size}
+use Rattle.plan_text.proofs.Writing.{text-short, plan-parts, parts-size}
+use Rattle.text.proofs.Lays.{lays-more}
 use Rattle.plan_text.proofs.write.lay_plan.Needs as need
 
 pub lay-clusters-tables-requires : need.lay-clusters-tables-requires

@@ -3,7 +3,8 @@ use native.Mathlib.Omega.{arith}
 use lib.ListN.{length}
 use Rattle.plan.specs.Of.{planContents}
 use Rattle.plan_text.specs.Writing.{resourceItems}
-use Rattle.plan_text.proofs.Writing.{length-resources, next-fits, lays-none, lays-next, lays-all}
+use Rattle.plan_text.proofs.Writing.{length-resources, next-fits, lays-next, lays-all}
+use Rattle.text.proofs.Lays.{lays-none}
 use Rattle.plan_text.proofs.write.lay_resources.Needs as need
 
 pub loop-resource-holds : need.loop-resource-holds

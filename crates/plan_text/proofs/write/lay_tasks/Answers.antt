@@ -5,7 +5,8 @@ use Rattle.std.proofs.shelf.Lists.{length-map}
 use Rattle.item.specs.declared.item.Item.the-variants.{Task}
 use Rattle.plan.specs.Of.{planContents}
 use Rattle.plan_text.specs.Writing.{taskItems}
-use Rattle.plan_text.proofs.Writing.{next-fits, lays-none, lays-next, lays-all}
+use Rattle.plan_text.proofs.Writing.{next-fits, lays-next, lays-all}
+use Rattle.text.proofs.Lays.{lays-none}
 use Rattle.plan_text.proofs.write.lay_tasks.Needs as need
 
 pub loop-task-holds : need.loop-task-holds
