@@ -1,0 +1,3 @@
+//! Slots: a bank of slot resources.
+pub mod line;
+pub mod slots;
