@@ -1,0 +1,3 @@
+//! A pair of banks is a bank.
+pub mod pair;
+pub mod within;
