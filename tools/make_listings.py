@@ -46,6 +46,20 @@ def refusal(line, rows):
     return 19 if used == room else (kind, numbers)
 
 
+def limits(rows):
+    """The line of each resource: its turn limits times the longest length declared for it."""
+    m = sum(n[0] for k, n in rows if k == "C")
+    out = b""
+    for r, (kind, numbers) in enumerate([row for row in rows if row[0] in "SW"]):
+        longest = max([n[2] for k, n in rows if k == "L" and n[1] == r], default=0)
+        if kind == "S":
+            write, read = -(-m // numbers[0]) - 1, "-"
+        else:
+            write, read = 2 * m - 2, min(2, m - 1) * longest
+        out += f"B,{r},{write * longest},{read}\n".encode()
+    return out
+
+
 def answer(data):
     end = re.search(rb"^\n", data[:LIMIT], re.MULTILINE)
     if not end:
@@ -59,7 +73,7 @@ def answer(data):
         rows.append(row)
     kinds = {k for k, _ in rows}
     if "C" in kinds and "T" in kinds and kinds & {"S", "W"}:
-        return text
+        return limits(rows)
     return b"plan,no,20,%d\n" % (len(rows) + 1)
 
 

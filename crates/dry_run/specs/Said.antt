@@ -5,17 +5,23 @@ use mathlib.Core.Bool.{Bool, true, false, cond, _||_}
 use mathlib.Core.List.{List, [], _∷_, _++_}
 use lib.Chars.{codes}
 use lib.Dec.{eqb, leb}
-use lib.ListN.{length, take}
+use lib.ListN.{length, getD, take}
 use Rattle.std.specs.Options.{isSome, valueOr, mapped}
 use Rattle.std.specs.Written.{decimal}
 use Rattle.std.specs.declared.option.Option.{Option}
 use Rattle.std.specs.declared.option.Option.the-variants.{Some, None}
 use Rattle.std.specs.declared.result.Result.{Result}
 use Rattle.std.specs.declared.result.Result.the-variants.{Ok, Err}
+use Rattle.bank.specs.Questions.{Told}
+use Rattle.limits.specs.Lines.{limitsText}
+use Rattle.pair.specs.Pairs.{pairTold}
+use Rattle.plan.specs.Contents.{Contents, processors}
 use Rattle.plan.specs.Of.{planContents}
 use Rattle.plan.specs.declared.draft.Refused.{Refused}
 use Rattle.plan.specs.declared.plan.Plan.{Plan}
-use Rattle.plan_text.specs.Texts.{planText, Verdict, decide, readText}
+use Rattle.plan_text.specs.Texts.{Verdict, decide, readText}
+use Rattle.readers_writers.specs.Lines.{turnLimit as readerWriterLimit}
+use Rattle.slots.specs.Lines.{turnLimit as slotLimit}
 use Rattle.text.specs.Questions.{Question, ask, firstNo}
 use Rattle.text.specs.Refusals.{number}
 
@@ -46,9 +52,19 @@ enough kept = isSome (planPart kept) || leb 16384 (length kept)
 abbrev pub refusedText : ℕ → ℕ → List ℕ
 refusedText question line = codes "plan,no," ++ (decimal question ++ (44 ∷ (decimal line ++ (10 ∷ []))))
 
--- what is printed: the plan's text, or the refusal
+-- what the slots of a plan, its readers and writers, and the pair of both tell
+abbrev pub slotsTold : Contents → Told
+slotsTold c = record { resources = length (c .slots); seats = processors c; slots = λ r. getD (c .slots) r 0; reads = λ _. false; limit = λ r _. slotLimit (processors c) (getD (c .slots) r 0) }
+
+abbrev pub readersWritersTold : Contents → Told
+readersWritersTold c = record { resources = c .readerWriters; seats = processors c; slots = λ _. 1; reads = λ _. true; limit = λ _ m. readerWriterLimit (processors c) m }
+
+abbrev pub planTold : Contents → Told
+planTold c = pairTold (slotsTold c) (readersWritersTold c)
+
+-- what is printed: the wait limits of each resource, or the refusal
 abbrev pub said : Verdict → List ℕ
-said (Ok c) = planText c
+said (Ok c) = limitsText (planTold c) c
 said (Err p) = refusedText (p .0) (p .1)
 
 -- the place of a plan holds what the input says, or it is as it was and the answer is the refusal

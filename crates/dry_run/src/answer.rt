@@ -10,9 +10,9 @@ ghost use Rattle.text.specs.Refusals.{number};
 ghost use Rattle.dry_run.specs.Inputs.{Fed};
 ghost use Rattle.dry_run.specs.Said.{verdict, said, refusedText, LeavesPlan};
 use crate::input::Input;
+use crate::limits::write_plan_limits;
 use plan::draft::Refused;
 use plan::plan::Plan;
-use plan_text::write::write;
 use text::memory::write_bytes;
 use text::number::number_size;
 use text::number::write_field;
@@ -56,7 +56,7 @@ impl Input {
         ensures fits { λ r. ⌜ (16384 ≤ length (now (out .entry)) → isOk r ≡ true) ⌝ }
     {
         match self.read(plan) {
-            Ok(()) => write(plan, out),
+            Ok(()) => write_plan_limits(plan, out),
             Err(why) => write_refused(out, why),
         }
     }

@@ -6,7 +6,7 @@ ghost use Rattle.examples.specs.Examples.{examples, AllHold};
 fn count() -> usize
     ensures { λ r. ⌜ r ≡ length examples ⌝ }
 {
-    5
+    10
 }
 
 /// How many worked examples there are; each of them holds.

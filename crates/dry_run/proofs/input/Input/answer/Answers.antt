@@ -1,23 +1,21 @@
-use mathlib.Core.Path.{refl, sym, ap, subst, _∙_}
+use mathlib.Core.Path.{refl, sym, subst}
 use native.Mathlib.Omega.{arith}
-use lib.ListN.{length, take}
-use Rattle.std.proofs.shelf.Lists.{take-all, length-take}
+use Rattle.limits.specs.Lines.{limitsText}
+use Rattle.plan.specs.Of.{planContents}
 use Rattle.text.specs.Memory.{Writes}
 use Rattle.text.specs.Refusals.{number}
-use Rattle.dry_run.specs.Inputs.{kept}
-use Rattle.dry_run.specs.Said.{said, refusedText, LeavesPlan}
-use Rattle.dry_run.proofs.Printed.{fits-written, written-within, said-short, refused-short}
+use Rattle.dry_run.specs.Said.{said, planTold, refusedText, LeavesPlan}
+use Rattle.dry_run.proofs.Printed.{fits-written, written-within, refused-short}
 use Rattle.dry_run.proofs.input.Input.answer.Needs as need
 
 pub returns-in-Ok : need.returns-in-Ok
 returns-in-Ok c =
-    let s = c .args .self .now in
-    let mine = take-all 16384 (kept s) (omega (arith, length-take (s .size) (s .text))) in
+    let said-of = planContents (c .read .last .into) in
     record {
-      says = λ input fed. subst (λ v. Writes (c .args .out .now) 0 (said v) (c .write .result) (c .write .last .out)) (sym (c .in-Ok .ensures tt input fed)) (c .write .ensures .writes);
+      says = λ input fed. subst (λ v. Writes (c .args .out .now) 0 (said v) (c .write-plan-limits .result) (c .write-plan-limits .last .out)) (sym (c .in-Ok .ensures tt input fed)) (c .write-plan-limits .ensures .writes);
       leaves = λ input fed. subst (λ v. LeavesPlan v (c .args .plan .now) (c .read .last .into)) (sym (c .in-Ok .ensures tt input fed)) refl;
-      within = written-within (c .args .out .now) _ (c .write .result) (c .write .last .out) (c .write .ensures .writes);
-      fits = λ room. fits-written (c .args .out .now) _ (c .write .result) (c .write .last .out) (c .write .ensures .writes) (omega (arith, said-short (kept s) _ (c .in-Ok .ensures tt (kept s) (sym mine))));
+      within = written-within (c .args .out .now) (limitsText (planTold said-of) said-of) (c .write-plan-limits .result) (c .write-plan-limits .last .out) (c .write-plan-limits .ensures .writes);
+      fits = λ room. c .write-plan-limits .ensures .fits (omega arith);
     }
 
 pub returns-in-Err : need.returns-in-Err

@@ -1,0 +1,3 @@
+//! The wait limits of each resource of a bank, as lines.
+pub mod limits;
+pub mod line;
