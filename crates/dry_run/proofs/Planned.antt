@@ -8,7 +8,7 @@ use Rattle.slots.specs.Lines.{turnLimit as slotLimit}
 use Rattle.slots.specs.Of.{toldOf as slotsToldOf, MadeFrom as SlotsOf}
 use Rattle.slots.specs.declared.slots.Slots.{Slots}
 use Rattle.dry_run.specs.Said.{slotsTold, readersWritersTold}
-use Rattle.dry_run.proofs.SameTold.{SameAt, Same}
+use Rattle.dry_run.proofs.SameTold.{Same}
 
 pub slots-same : (c : Contents) (s : Slots) → SlotsOf c s → Same (slotsToldOf s) (slotsTold c)
 slots-same c s made = record {

@@ -6,17 +6,17 @@ use mathlib.Core.List.{List, [], _∷_, _++_}
 use mathlib.Core.Logic.{⊎-elim}
 use native.Mathlib.Omega.{arith}
 use lib.Dec.{eqb, leb}
-use lib.ListN.{length, take, length-take}
+use lib.ListN.{length, take}
 use Rattle.std.specs.Options.{isSome, mapped}
 use Rattle.std.specs.declared.option.Option.{Option}
 use Rattle.std.specs.declared.option.Option.the-variants.{Some, None}
 use Rattle.std.specs.declared.result.Result.{Result}
 use Rattle.std.specs.declared.result.Result.the-variants.{Ok, Err}
-use Rattle.std.proofs.shelf.Lists.{take-all, take-take, take-append-le, length-take-le}
+use Rattle.std.proofs.shelf.Lists.{take-all, take-take, take-append-le}
 use Rattle.std.proofs.shelf.Tests.{false≢true, cases-lt, or-cases, leb-true}
 use Rattle.plan.specs.declared.draft.Refused.{Refused}
 use Rattle.plan.specs.declared.plan.Plan.{Plan}
-use Rattle.plan_text.specs.Texts.{readText, ReadsText}
+use Rattle.plan_text.specs.Texts.{ReadsText}
 use Rattle.dry_run.specs.Said.{beforeEmpty, planPart, partVerdict, verdict, enough, ReadsInput}
 use Rattle.dry_run.proofs.Pieces.{take-behind}
 

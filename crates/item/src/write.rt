@@ -2,7 +2,6 @@ ghost use mathlib.Core.Path.{_≡_};
 ghost use mathlib.Core.List.{_++_};
 ghost use Prim.Native.Nat.{_≤_};
 ghost use lib.ListN.{length};
-ghost use Rattle.std.specs.Written.{decimal};
 ghost use Rattle.text.specs.Memory.{Writes, Puts};
 ghost use Rattle.item.specs.declared.item.Item.the-variants.{Length};
 ghost use Rattle.item.specs.Lines.{ending, followed, itemText, ReadsBack};

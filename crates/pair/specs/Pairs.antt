@@ -1,7 +1,6 @@
 -- Two banks as one: the first's resources, and then the second's.
 use Prim.Native.Nat.{ℕ, _+_, _-_, min}
 use mathlib.Core.Bool.{cond}
-use mathlib.Core.List.{List}
 use lib.Dec.{ltb}
 use Rattle.bank.specs.Meaning.{Lists}
 use Rattle.bank.specs.Questions.{Told}

@@ -1,8 +1,7 @@
 -- The counts of the tables are the lengths of what they say.
-use Prim.Native.Nat.{ℕ}
 use mathlib.Core.Path.{_≡_}
 use native.Mathlib.Omega.{arith}
-use lib.ListN.{length, take}
+use lib.ListN.{length}
 use Rattle.std.proofs.shelf.Lists.{length-take-le}
 use Rattle.plan.specs.Of.{contentsOf}
 use Rattle.plan.specs.declared.tables.Tables.{Tables}

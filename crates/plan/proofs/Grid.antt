@@ -1,21 +1,20 @@
 -- The table of lengths and the row of declared lengths.
 use Prim.Native.Nat.{ℕ, zero, suc, _+_, _-_, _*_, _/_, _%_, _≤_, _<_}
-use mathlib.Core.Path.{_≡_, refl, sym, ap, subst, _∙_}
-use mathlib.Core.Bool.{Bool, true, false, cond, not, _&&_, _||_}
+use mathlib.Core.Path.{_≡_, refl, sym, ap, _∙_}
+use mathlib.Core.Bool.{true, false, cond, _&&_}
 use mathlib.Core.List.{List, [], _∷_, _++_}
 use mathlib.Core.Logic.{_⊎_, inl, inr, ⊎-elim}
 use native.Mathlib.Omega.{arith}
-use native.Mathlib.Numerals.{add-one}
 use native.Mathlib.Nat.{add-zero, zero-add}
-use lib.Dec.{eqb, ltb, leb}
-use lib.ListN.{length, getD, set, take, replicate}
+use lib.Dec.{eqb}
+use lib.ListN.{length, getD, set, take}
 use Rattle.std.specs.Options.{valueOr}
 use Rattle.std.specs.shelf.Lists.{All}
 use Rattle.std.proofs.shelf.Elements.{all-has, has-append-right, has-getD}
 use Rattle.std.proofs.shelf.Lists.{ext-getD}
 use Rattle.std.specs.declared.option.Option.{Option}
 use Rattle.std.specs.declared.option.Option.the-variants.{Some, None}
-use Rattle.std.proofs.shelf.Tests.{cases-bool, cases-eq, cases-lt, eqb-true, eqb-false, eq-eqb, ne-eqb, and-from, and-left, and-right, cond-true, cond-false, cases-order}
+use Rattle.std.proofs.shelf.Tests.{cases-bool, cases-eq, cases-lt, eq-eqb, ne-eqb, and-from, and-left, and-right, cond-true, cond-false, cases-order}
 use Rattle.std.proofs.shelf.Ways.{tells}
 use Rattle.plan.specs.Adding.{none, below, above}
 use Rattle.plan.specs.Contents.{Declared, lengthIn}

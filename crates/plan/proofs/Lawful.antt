@@ -1,20 +1,20 @@
 -- What a sealed plan says keeps the limits.
 use Prim.Native.Nat.{ℕ, _+_, _/_, _%_, _≤_, _<_}
-use mathlib.Core.Path.{_≡_, sym, ap, subst, _∙_}
-use mathlib.Core.Bool.{Bool, true, _&&_}
-use mathlib.Core.List.{List, [], _∷_}
+use mathlib.Core.Path.{_≡_}
+use mathlib.Core.Bool.{true}
+use mathlib.Core.List.{List}
 use native.Mathlib.Nat.{zero-add}
 use native.Mathlib.Omega.{arith}
-use lib.Dec.{ltb, leb}
+use lib.Dec.{ltb}
 use lib.ListN.{length, getD, take}
 use Rattle.std.specs.shelf.Lists.{All, sum}
 use Rattle.std.proofs.shelf.Elements.{all-from-getD}
 use Rattle.std.proofs.shelf.Lists.{getD-take, length-take-le}
 use Rattle.std.proofs.shelf.Tests.{and-from, lt-ltb, le-leb}
 use Rattle.plan.specs.Adding.{within, inLimits, complete}
-use Rattle.plan.specs.Contents.{Declared, Contents, processors, resourceCount, lengthItem}
+use Rattle.plan.specs.Contents.{Contents, processors, resourceCount, lengthItem}
 use Rattle.plan.specs.Limits.{Between}
-use Rattle.plan.specs.Of.{placed, declared, contentsOf, planContents}
+use Rattle.plan.specs.Of.{placed, contentsOf, planContents}
 use Rattle.plan.specs.declared.plan.Plan.{Plan}
 use Rattle.plan.specs.declared.tables.Tables.{Tables}
 use Rattle.plan.proofs.Counts.{cluster-count, slot-count, task-count}

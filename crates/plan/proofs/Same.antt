@@ -3,7 +3,7 @@ use Prim.Native.Nat.{ℕ, _+_, _≤_, _<_}
 use mathlib.Core.Path.{_≡_, sym, ap, _∙_}
 use mathlib.Core.HLevel.{isProp→PathP}
 use mathlib.Core.List.{List}
-use lib.ListN.{length, take}
+use lib.ListN.{take}
 use denote.Struct.Props.{props}
 use Rattle.std.specs.shelf.Lists.{sum}
 use Rattle.plan.specs.Limits.{Holds, Between, Declares, EndsDeclared}

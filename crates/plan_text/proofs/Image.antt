@@ -1,11 +1,11 @@
 -- A text and a plan are each other's image.
-use Prim.Native.Nat.{ℕ, zero, suc, _+_, _≤_, _<_}
-use mathlib.Core.Path.{_≡_, refl, sym, ap, subst, _∙_}
-use mathlib.Core.Bool.{Bool, true, false, _&&_, cond}
+use Prim.Native.Nat.{ℕ, zero, suc, _+_}
+use mathlib.Core.Path.{_≡_, refl, sym, ap, _∙_}
+use mathlib.Core.Bool.{true, false}
 use mathlib.Core.List.{List, [], _∷_, _++_, map, append-assoc, append-nil}
 use mathlib.Core.Logic.{⊎-elim}
 use native.Mathlib.Omega.{arith}
-use lib.Dec.{eqb, ltb, leb}
+use lib.Dec.{eqb, ltb}
 use lib.ListN.{length, replicate}
 use Rattle.std.specs.declared.option.Option.{Option}
 use Rattle.std.specs.declared.option.Option.the-variants.{Some, None}
@@ -16,7 +16,7 @@ use Rattle.std.proofs.shelf.Elements.{all-append, all-map, all-weaker}
 use Rattle.std.proofs.shelf.Tests.{and-parts, leb-true, ltb-true, cases-bool}
 use Rattle.item.specs.Lines.{itemText, readItem, Writable, IsLineOf}
 use Rattle.item.specs.declared.item.Item.{Item}
-use Rattle.item.specs.declared.item.Item.the-variants.{Cluster, Slots, ReaderWriter, Task, Length}
+use Rattle.item.specs.declared.item.Item.the-variants.{Cluster, Slots, ReaderWriter, Task}
 use Rattle.item.proofs.Lines.{read-back, is-line-of, item-line}
 use Rattle.plan.specs.Adding.{empty, added, within, inLimits, itemQuestions, lineQuestions, sealQuestions}
 use Rattle.plan.specs.Contents.{Declared, Contents, processors, resourceCount, lengthItem, itemsOf}
@@ -29,7 +29,7 @@ use Rattle.plan.proofs.Same.{same-plans}
 use Rattle.text.specs.Lines.{linesOf, joinFirst}
 use Rattle.text.specs.Questions.{firstNo}
 use Rattle.text.specs.Refusals.{number}
-use Rattle.plan_text.specs.Texts.{planText, Verdict, decide, grown, judge, readText, ReadsText, IsTextOf, ReadsBack}
+use Rattle.plan_text.specs.Texts.{planText, decide, grown, judge, readText, ReadsText, IsTextOf, ReadsBack}
 use Rattle.plan_text.proofs.Items.{items-added, items-accepted}
 
 -- the lines of a text, joined, are the text

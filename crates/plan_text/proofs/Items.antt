@@ -1,7 +1,7 @@
 -- A row of items in order and what they say are each other's image.
-use Prim.Native.Nat.{ℕ, zero, suc, _+_, _≤_, _<_}
+use Prim.Native.Nat.{ℕ, zero, suc, _+_, _<_}
 use mathlib.Core.Path.{_≡_, refl, sym, ap, subst, _∙_}
-use mathlib.Core.Bool.{Bool, true, _&&_}
+use mathlib.Core.Bool.{true, _&&_}
 use mathlib.Core.List.{List, [], _∷_, _++_, map, append-assoc, append-nil}
 use native.Mathlib.Omega.{arith}
 use lib.Dec.{eqb, ltb}
@@ -12,15 +12,15 @@ use Rattle.std.specs.declared.result.Result.the-variants.{Ok}
 use Rattle.std.specs.shelf.Lists.{All, Has}
 use Rattle.std.proofs.shelf.Elements.{all-has, has-append-right, has-getD}
 use Rattle.std.proofs.shelf.Lists.{map-append, map-push, length-push, length-replicate, nil-from-length, replicate-more}
-use Rattle.std.proofs.shelf.Tests.{and-parts, and-from, eqb-true, lt-ltb, ltb-true}
+use Rattle.std.proofs.shelf.Tests.{and-parts, eqb-true, lt-ltb}
 use Rattle.item.specs.declared.item.Item.{Item}
 use Rattle.item.specs.declared.item.Item.the-variants.{Cluster, Slots, ReaderWriter, Task, Length}
 use Rattle.plan.specs.Adding.{empty, added, none, within, inOrder, inLimits, hasRoom, complete, lineQuestions}
-use Rattle.plan.specs.Contents.{Declared, Contents, processors, resourceCount, lengthItem, itemsOf}
+use Rattle.plan.specs.Contents.{Declared, Contents, processors, lengthItem, itemsOf}
 use Rattle.plan.proofs.Grid.{Rising, above-front}
 use Rattle.plan.proofs.Lawful.{Lawful}
 use Rattle.text.specs.Questions.{firstNo}
-use Rattle.plan_text.specs.Texts.{decide, grown, judge}
+use Rattle.plan_text.specs.Texts.{decide, judge}
 
 -- an entry at the end of its table is at the end of the row, where no later table has one
 push-before : {A : Type 0} (xs rest : List A) (y : A) → rest ≡ [] → (xs ++ (y ∷ [])) ++ rest ≡ (xs ++ rest) ++ (y ∷ [])

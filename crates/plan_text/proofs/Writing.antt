@@ -1,23 +1,22 @@
 -- Lines laid one after another.
 use Prim.Native.Nat.{ℕ, zero, suc, _+_, _-_, _*_, _/_, _%_, _^_, _≤_, _<_}
-use mathlib.Core.Path.{_≡_, refl, sym, ap, subst, _∙_}
-use mathlib.Core.Bool.{Bool, true, false, cond}
+use mathlib.Core.Path.{_≡_, refl, sym, ap, _∙_}
+use mathlib.Core.Bool.{true, false, cond}
 use mathlib.Core.List.{List, [], _∷_, _++_, map, append-assoc, append-nil}
 use mathlib.Core.Logic.{⊎-elim}
-use native.Mathlib.Nat.{add-zero, zero-add}
+use native.Mathlib.Nat.{zero-add}
 use native.Mathlib.Omega.{arith}
-use lib.Dec.{eqb, ltb}
+use lib.Dec.{eqb}
 use lib.ListN.{length, getD, take, replicate, length-append}
-use Rattle.std.specs.declared.option.Option.{Option}
 use Rattle.std.specs.declared.option.Option.the-variants.{Some, None}
-use Rattle.std.specs.shelf.Lists.{All, joined}
+use Rattle.std.specs.shelf.Lists.{All}
 use Rattle.std.proofs.shelf.Lists.{take-more, take-all, map-append, length-map, length-replicate, getD-map, getD-append-left, getD-append-right, getD-replicate}
-use Rattle.std.proofs.shelf.Tests.{cond-true, cond-false, lt-ltb, le-ltb, cases-lt, eq-eqb, ne-eqb, cases-eq}
+use Rattle.std.proofs.shelf.Tests.{cond-true, cond-false, lt-ltb, le-ltb, cases-lt}
 use Rattle.item.specs.Lines.{itemText, Writable}
 use Rattle.item.specs.declared.item.Item.{Item}
 use Rattle.item.specs.declared.item.Item.the-variants.{Cluster, Slots, ReaderWriter, Task, Length}
 use Rattle.item.proofs.Lines.{size-text}
-use Rattle.plan.specs.Contents.{Declared, Contents, entryAt, resourceAt, resourceCount, lengthIn, lengthItem, itemsOf}
+use Rattle.plan.specs.Contents.{Contents, entryAt, resourceAt, resourceCount, lengthIn, lengthItem, itemsOf}
 use Rattle.plan.specs.Of.{placed, declared, planContents}
 use Rattle.plan.specs.declared.plan.Plan.{Plan}
 use Rattle.plan.specs.declared.resource.Resource.{Resource}

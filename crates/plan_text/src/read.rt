@@ -1,4 +1,3 @@
-ghost use mathlib.Core.Path.{_≡_};
 ghost use Rattle.plan_text.specs.Texts.{ReadsText, IsTextOf};
 use plan::draft::Draft;
 use plan::draft::Refused;

@@ -28,7 +28,7 @@ pub(crate) fn writes(mode: Mode) -> bool
 
 impl Kind {
     /// Whether an entry is of this kind.
-    pub fn fits(self, e: Entry) -> bool
+    pub(crate) fn fits(self, e: Entry) -> bool
         ensures { λ r. ⌜ r ≡ isKind self e ⌝ }
     {
         match self {

@@ -1,15 +1,15 @@
 -- A text cut behind its first newline.
-use Prim.Native.Nat.{ℕ, suc, _+_, _<_, _≤_, min}
+use Prim.Native.Nat.{ℕ, suc, _+_, min}
 use mathlib.Core.Path.{_≡_, refl, sym, ap, subst, _∙_}
-use mathlib.Core.Bool.{Bool, true, false, cond, not}
-use mathlib.Core.List.{List, [], _∷_, _++_}
+use mathlib.Core.Bool.{true, false}
+use mathlib.Core.List.{List, [], _∷_}
 use mathlib.Core.Logic.{⊎-elim}
 use native.Mathlib.Omega.{arith}
 use lib.Dec.{eqb}
 use lib.ListN.{length, take, drop}
 use Rattle.std.proofs.shelf.Lists.{take-all, drop-all}
 use Rattle.std.proofs.shelf.Tests.{cases-bool, cases-lt}
-use Rattle.text.specs.Lines.{beforeNewline, linesOf, joinFirst, CutsLine}
+use Rattle.text.specs.Lines.{beforeNewline, joinFirst, CutsLine}
 
 cuts-behind : (s : List ℕ) → CutsLine s (take (beforeNewline s + 1) s) (drop (beforeNewline s + 1) s)
 cuts-behind [] = (refl, refl)

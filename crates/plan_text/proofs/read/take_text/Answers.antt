@@ -1,6 +1,6 @@
-use Prim.Native.Nat.{ℕ, _+_, _<_, _≤_}
+use Prim.Native.Nat.{_+_, _<_}
 use mathlib.Core.Path.{_≡_, refl, sym, ap, _∙_}
-use mathlib.Core.List.{[], map}
+use mathlib.Core.List.{map}
 use native.Mathlib.Omega.{arith}
 use lib.ListN.{length}
 use Rattle.std.proofs.shelf.Lists.{nil-from-length}
@@ -10,7 +10,7 @@ use Rattle.item.specs.Lines.{readItem}
 use Rattle.plan.specs.Of.{contentsOf}
 use Rattle.text.specs.Lines.{linesOf}
 use Rattle.text.specs.Refusals.{number}
-use Rattle.plan_text.specs.Texts.{decide, judge, readText}
+use Rattle.plan_text.specs.Texts.{decide, judge}
 use Rattle.plan_text.proofs.Reading.{cut-lines, line-taken, line-refused}
 use Rattle.plan_text.proofs.read.take_text.Needs as need
 

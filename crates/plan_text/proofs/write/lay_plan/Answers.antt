@@ -1,10 +1,6 @@
-use Prim.Native.Nat.{_+_, _<_, _^_}
-use mathlib.Core.Path.{_≡_, ap}
-use mathlib.Core.List.{List, _++_}
 use native.Mathlib.Omega.{arith}
-use lib.ListN.{length, length-append}
 use Rattle.plan.specs.Of.{planContents}
-use Rattle.plan_text.specs.Texts.{rowText, planText}
+use Rattle.plan_text.specs.Texts.{rowText}
 use Rattle.plan_text.specs.Writing.{clusterItems, resourceItems, taskItems, lengthItems}
 use Rattle.plan_text.proofs.Writing.{text-short, plan-parts, parts-size}
 use Rattle.text.proofs.Lays.{lays-more}

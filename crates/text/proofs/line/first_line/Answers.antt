@@ -1,6 +1,3 @@
-use mathlib.Core.Path.{sym}
-use lib.ListN.{drop}
-use Rattle.text.specs.Lines.{CutsLine}
 use Rattle.text.proofs.Lines.{cuts-line}
 use Rattle.text.proofs.line.first_line.Needs as need
 

@@ -1,8 +1,7 @@
 use Prim.Native.Nat.{_-_, _+_}
-use mathlib.Core.Path.{_≡_, ap, _∙_}
+use mathlib.Core.Path.{ap, _∙_}
 use native.Mathlib.Omega.{arith}
 use lib.ListN.{length, take}
-use Rattle.text.specs.Memory.{overlay}
 use Rattle.dry_run.proofs.Pieces.{kept-more}
 use Rattle.dry_run.proofs.input.Input.keep.Needs as need
 

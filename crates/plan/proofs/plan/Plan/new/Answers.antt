@@ -1,8 +1,6 @@
-use Prim.Native.Nat.{ℕ}
 use mathlib.Core.Path.{_≡_, sym, ap, _∙_}
 use native.Mathlib.Omega.{arith}
 use lib.ListN.{length}
-use Rattle.plan.specs.Contents.{Contents}
 use Rattle.plan.proofs.Counts.{cluster-count, slot-count, task-count}
 use Rattle.plan.proofs.plan.Plan.new.Needs as need
 

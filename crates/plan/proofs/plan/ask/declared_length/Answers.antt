@@ -1,5 +1,5 @@
-use Prim.Native.Nat.{ℕ, _+_, _*_, _<_, _≤_}
-use mathlib.Core.Path.{_≡_, sym, ap, _∙_}
+use Prim.Native.Nat.{ℕ, _+_, _*_, _≤_}
+use mathlib.Core.Path.{_≡_, sym, _∙_}
 use mathlib.Core.Logic.{_⊎_, inl, inr, ⊎-elim}
 use native.Mathlib.Omega.{arith}
 use lib.Dec.{eqb}
@@ -9,7 +9,7 @@ use Rattle.std.specs.declared.option.Option.the-variants.{None}
 use Rattle.plan.specs.Contents.{lengthAt}
 use Rattle.plan.specs.Of.{contentsOf}
 use Rattle.plan.specs.declared.tables.Tables.{Tables}
-use Rattle.plan.proofs.Grid.{held, length-held, length-none}
+use Rattle.plan.proofs.Grid.{length-held, length-none}
 use Rattle.plan.proofs.plan.ask.declared_length.Needs as need
 use Rattle.plan.proofs.plan.ask.declared_length.Needs.{then-task-tables·by·then-task-tables, then-task-tables·by·else-task-tables·then-resource-tables}
 

@@ -1,7 +1,4 @@
-use Prim.Native.Nat.{_<_}
-use mathlib.Core.Path.{_≡_}
 use borrow.Author.Needs.{needs}
-use lib.ListN.{getD, take}
 use Rattle.std.proofs.shelf.Lists.{getD-take}
 use Rattle.plan.proofs.plan.ask.entry.Needs as need
 

@@ -1,8 +1,6 @@
-use Prim.Native.Nat.{ℕ}
 use mathlib.Core.Path.{_≡_, sym, ap, _∙_}
 use native.Mathlib.Omega.{arith}
 use lib.ListN.{length}
-use Rattle.plan.specs.Contents.{Contents}
 use Rattle.plan.proofs.Counts.{cluster-count, slot-count}
 use Rattle.plan.proofs.plan.ask.smallest_tables.Needs as need
 

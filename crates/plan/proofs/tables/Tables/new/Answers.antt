@@ -1,7 +1,6 @@
 use mathlib.Core.Path.{ap, _∙_}
 use mathlib.Core.List.{[]}
 use lib.ListN.{replicate}
-use Rattle.plan.specs.Contents.{Contents}
 use Rattle.plan.proofs.Grid.{declared-none}
 use Rattle.plan.proofs.Rows.{zeros}
 use Rattle.plan.proofs.tables.Tables.new.Needs as need

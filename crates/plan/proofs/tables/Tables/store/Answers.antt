@@ -1,6 +1,5 @@
-use Prim.Native.Nat.{_+_, _*_, _≤_, _<_}
+use Prim.Native.Nat.{_≤_}
 use mathlib.Core.Path.{_≡_, subst}
-use mathlib.Core.Bool.{true}
 use native.Mathlib.Omega.{arith}
 use lib.ListN.{length, take}
 use Rattle.std.proofs.shelf.Lists.{length-take-le}
@@ -9,7 +8,7 @@ use Rattle.std.specs.declared.option.Option.the-variants.{None}
 use Rattle.item.specs.declared.item.Item.the-variants.{Length}
 use Rattle.text.specs.Questions.{firstNo}
 use Rattle.plan.specs.Adding.{itemQuestions}
-use Rattle.plan.specs.Of.{declared, contentsOf}
+use Rattle.plan.specs.Of.{contentsOf}
 use Rattle.plan.specs.Contents.{processors}
 use Rattle.plan.proofs.Adding.{passes}
 use Rattle.plan.proofs.Grid.{above-behind}
