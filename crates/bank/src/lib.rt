@@ -1,4 +1,6 @@
 //! A bank: shared resources with their lines of waiting requests, by what it means.
+#![tactic(auto)]
+
 pub mod meaning;
 pub mod refusal;
 pub mod request;

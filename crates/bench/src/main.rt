@@ -1,4 +1,6 @@
 //! Reads the full plan and writes it back, as many times as the argument says.
+#![tactic(auto)]
+
 use plan::plan::Plan;
 use plan_text::read::read;
 use plan_text::write::write;

@@ -1,7 +1,7 @@
 -- The answers of the calls, from what was done to the bank.
 use Rattle.std.proofs.Common.{◌≡◌, ℕ, Bool, cond, [], Some, None, Ok, Err, sym, ap, ◌∙◌}
 use Rattle.bank.specs.Meaning.{Lists}
-use Rattle.bank.specs.Questions.{leave_questions, number as bankNumber}
+use Rattle.bank.specs.Questions.{leave_questions, number as bank_number}
 use Rattle.bank.specs.declared.refusal.Refusal.{Refusal as BankRefusal}
 use Rattle.bank.specs.declared.request.Mode.{Mode}
 use Rattle.text.specs.Questions.{first_no}
@@ -14,13 +14,13 @@ use Rattle.rules.specs.declared.refusal.Refusal.{Refusal}
 use Rattle.rules.specs.declared.refusal.Refusal.TheVariants.{Bank}
 use Rattle.controller.specs.Issues.{Asks}
 
-pub ask_answered : (a : Setup) (s : Snapshot) (t r : ℕ) (m : Mode) (isFirst : Bool) (x : Asked) (new : Lists) → isFirst ≡ first a (jobs_in s) t → first_no (ask_questions a s t r m) ≡ None → Asks a.told isFirst t r m (Ok x) s.lists new → Answered a s (asked t r m (Ok x)) new
-ask_answered a s t r m isFirst Hold new e own done = (own, (sym e ∙ done.0, done.1))
-ask_answered a s t r m isFirst Wait new e own done = (own, (sym e ∙ done.0, done.1))
-ask_answered a s t r m isFirst Back new e own done = (own, (sym e ∙ done.0, done.1))
+pub ask_answered : (a : Setup) (s : Snapshot) (t r : ℕ) (m : Mode) (is_first : Bool) (x : Asked) (new : Lists) → is_first ≡ first a (jobs_in s) t → first_no (ask_questions a s t r m) ≡ None → Asks a.told is_first t r m (Ok x) s.lists new → Answered a s (asked t r m (Ok x)) new
+ask_answered a s t r m is_first Hold new e own done = (own, (sym e ∙ done.0, done.1))
+ask_answered a s t r m is_first Wait new e own done = (own, (sym e ∙ done.0, done.1))
+ask_answered a s t r m is_first Back new e own done = (own, (sym e ∙ done.0, done.1))
 
-pub ask_refused : (a : Setup) (s : Snapshot) (t r : ℕ) (m : Mode) (isFirst : Bool) (why : Refusal) (new : Lists) → isFirst ≡ first a (jobs_in s) t → first_no (ask_questions a s t r m) ≡ None → Asks a.told isFirst t r m (Err why) s.lists new → Answered a s (asked t r m (Err why)) new
-ask_refused a s t r m isFirst why new e own done = (
+pub ask_refused : (a : Setup) (s : Snapshot) (t r : ℕ) (m : Mode) (is_first : Bool) (why : Refusal) (new : Lists) → is_first ≡ first a (jobs_in s) t → first_no (ask_questions a s t r m) ≡ None → Asks a.told is_first t r m (Err why) s.lists new → Answered a s (asked t r m (Err why)) new
+ask_refused a s t r m is_first why new e own done = (
   record {
     decided = ap (λ (b : Bool). first_no (cond b (cond (first a (jobs_in s) t) (issue_questions a s t r m) []) (ask_questions a s t r m))) done.1 ∙ (ap (λ (b : Bool). first_no (cond b (issue_questions a s t r m) [])) (sym e) ∙ done.0);
     own_first = λ f. own;
@@ -29,6 +29,6 @@ ask_refused a s t r m isFirst why new e own done = (
 )
 
 -- the bank refuses a departure
-pub give_refused : (a : Setup) (s : Snapshot) (t r : ℕ) (why : BankRefusal) (new : Lists) → first_no (give_questions a s t) ≡ None → resource_of a s t ≡ r → first_no (leave_questions a.told r t (s.lists r)) ≡ Some (bankNumber why) → new ≡ s.lists → Answered a s (gave t (Err (Bank why))) new
+pub give_refused : (a : Setup) (s : Snapshot) (t r : ℕ) (why : BankRefusal) (new : Lists) → first_no (give_questions a s t) ≡ None → resource_of a s t ≡ r → first_no (leave_questions a.told r t (s.lists r)) ≡ Some (bank_number why) → new ≡ s.lists → Answered a s (gave t (Err (Bank why))) new
 give_refused a s t r why new own e refusal same =
     (record { decided = ap (λ (x : ℕ). first_no (leave_questions a.told x t (s.lists x))) e ∙ refusal; own_first = λ f. own }, same)

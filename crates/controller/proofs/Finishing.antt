@@ -3,7 +3,7 @@ use Rattle.std.proofs.Common.{◌≡◌, ℕ, ◌<◌, Bool, true, false, cond, 
 use mathlib.Core.Path.{fun_ext}
 use Rattle.std.proofs.lemmas.Bool.{and_parts, false≢true}
 use Rattle.bank.specs.Meaning.{Lists, Enters}
-use Rattle.bank.specs.Questions.{enter_questions, number as bankNumber}
+use Rattle.bank.specs.Questions.{enter_questions, number as bank_number}
 use Rattle.bank.specs.declared.refusal.Refusal.{Refusal as BankRefusal}
 use Rattle.text.specs.Questions.{first_no}
 use Rattle.rules.specs.Answers.{finished, Answered, IssuesNext, next_questions}
@@ -56,10 +56,10 @@ module _ (a : Setup) (s : Snapshot) (t : ℕ) (own : first_no (finish_questions 
   finish_issued blocked u holds w new e same wanted entered =
       (own, same, subst (λ (o : Option ℕ). IssuesNext a s o (Some (record { task = u; holds = holds })) new) e (refl, subst (λ (x : Wanted). Enters a.told x.resource u x.mode (Ok holds) s.lists new) wanted entered))
 
-  pub finish_refused : (u : ℕ) (why : BankRefusal) (w : Wanted) (new : Lists) → Some u ≡ next_issued a s t → w ≡ wanted_of (s.tasks u).state → first_no (enter_questions a.told w.resource u w.mode (s.lists w.resource)) ≡ Some (bankNumber why) → new ≡ s.lists → Answered a s (finished t (Err (Bank why))) new
+  pub finish_refused : (u : ℕ) (why : BankRefusal) (w : Wanted) (new : Lists) → Some u ≡ next_issued a s t → w ≡ wanted_of (s.tasks u).state → first_no (enter_questions a.told w.resource u w.mode (s.lists w.resource)) ≡ Some (bank_number why) → new ≡ s.lists → Answered a s (finished t (Err (Bank why))) new
   finish_refused u why w new e wanted refusal same = (
     record {
-      decided = subst (λ (o : Option ℕ). first_no (next_questions a s o) ≡ Some (bankNumber why)) e (subst (λ (x : Wanted). first_no (enter_questions a.told x.resource u x.mode (s.lists x.resource)) ≡ Some (bankNumber why)) wanted refusal);
+      decided = subst (λ (o : Option ℕ). first_no (next_questions a s o) ≡ Some (bank_number why)) e (subst (λ (x : Wanted). first_no (enter_questions a.told x.resource u x.mode (s.lists x.resource)) ≡ Some (bank_number why)) wanted refusal);
       own_first = λ f. own;
     },
     same,

@@ -1,4 +1,6 @@
 //! Works controllers over slots alone, over readers and writers alone, over pairs of them, and over a bank that does not fit.
+#![tactic(auto)]
+
 use bank::meaning::Bank;
 use bank::request::Mode;
 use claim::calls::{ask, give};

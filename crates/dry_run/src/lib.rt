@@ -1,4 +1,6 @@
 //! The dry run: a plan from an input that comes in pieces, and what is printed.
+#![tactic(auto)]
+
 pub mod answer;
 pub mod input;
 pub mod limits;

@@ -1,4 +1,6 @@
 //! Plays each listing that an argument names: data NAME.in must print NAME.out, however it is cut into pieces.
+#![tactic(auto)]
+
 use event_run::run::DryRun;
 use std::alloc::{AllocError, Global};
 use std::{env, fs, io};

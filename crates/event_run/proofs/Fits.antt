@@ -7,13 +7,13 @@ use Rattle.bank.specs.Questions.{Told}
 use Rattle.plan.specs.Contents.{Contents, processors, resource_count}
 use Rattle.plan.specs.Of.{plan_contents}
 use Rattle.plan.specs.declared.plan.Plan.{Plan}
-use Rattle.readers_writers.specs.Banks.{active_of as writersActiveOf}
-use Rattle.readers_writers.specs.Lines.{requests as writersRequests}
+use Rattle.readers_writers.specs.Banks.{active_of as writers_active_of}
+use Rattle.readers_writers.specs.Lines.{requests as writers_requests}
 use Rattle.rules.specs.Jobs.{Setup}
 use Rattle.rules.specs.Questions.{all_below, equal_bool, fits_at, fits, slots_in, reads_in}
 use Rattle.rules.specs.Runs.{Fitting, Unfit}
-use Rattle.slots.specs.Lines.{requests as slotsRequests}
-use Rattle.slots.specs.Of.{holders_of, told_of as slotsToldOf, active_of as slotsActiveOf}
+use Rattle.slots.specs.Lines.{requests as slots_requests}
+use Rattle.slots.specs.Of.{holders_of, told_of as slots_told_of, active_of as slots_active_of}
 use Rattle.event_run.specs.Made.{Banks, meaning, BanksOf}
 
 all_pass : (test : ℕ → Bool) (n : ℕ) → ((r : ℕ) → r < n → test r ≡ true) → all_below test n ≡ true
@@ -24,17 +24,17 @@ few_resources_lem : (p : Plan) → resource_count (plan_contents p) ≤ 16
 few_resources_lem p = let t = p.tables in omega (arith, t.resources_held, length-take-le t.slot_count t.slots (omega (arith, t.slots_held.0, t.slots_held.1)))
 
 module _ (c : Contents) (b : Banks) (of : BanksOf c b) where
-  count : (slotsToldOf b.first).resources ≡ length c.slots
+  count : (slots_told_of b.first).resources ≡ length c.slots
   count = of.slots.resources
 
   fits_at_lem : (r : ℕ) → fits_at c (meaning.told b) (meaning.active b) r ≡ true
   fits_at_lem r =
-      subst (λ n. (eqb (cond (ltb r n) (holders_of b.first r) 1) (slots_in c r) && (equal_bool (cond (ltb r n) false true) (reads_in c r) && eqb (length (cond (ltb r n) (slotsActiveOf b.first r) (writersActiveOf b.second (r - n)))) 0)) ≡ true) (sym count)
+      subst (λ n. (eqb (cond (ltb r n) (holders_of b.first r) 1) (slots_in c r) && (equal_bool (cond (ltb r n) false true) (reads_in c r) && eqb (length (cond (ltb r n) (slots_active_of b.first r) (writers_active_of b.second (r - n)))) 0)) ≡ true) (sym count)
       (by (ltb r (length c.slots)) refl)
     where
-      by : (v : Bool) → ltb r (length c.slots) ≡ v → (eqb (cond v (holders_of b.first r) 1) (cond v (get_or c.slots r 0) 1) && (equal_bool (cond v false true) (not v) && eqb (length (cond v (slotsActiveOf b.first r) (writersActiveOf b.second (r - length c.slots)))) 0)) ≡ true
-      by true e = and_from _ _ (eq-eqb _ _ (of.slots.slots r (ltb-true r (length c.slots) e))) (ap (λ xs. eqb (length (slotsRequests (holders_of b.first r) xs)) 0) (of.slots.nobody r))
-      by false e = ap (λ xs. eqb (length (writersRequests xs)) 0) (of.free (r - length c.slots))
+      by : (v : Bool) → ltb r (length c.slots) ≡ v → (eqb (cond v (holders_of b.first r) 1) (cond v (get_or c.slots r 0) 1) && (equal_bool (cond v false true) (not v) && eqb (length (cond v (slots_active_of b.first r) (writers_active_of b.second (r - length c.slots)))) 0)) ≡ true
+      by true e = and_from _ _ (eq-eqb _ _ (of.slots.slots r (ltb-true r (length c.slots) e))) (ap (λ xs. eqb (length (slots_requests (holders_of b.first r) xs)) 0) (of.slots.nobody r))
+      by false e = ap (λ xs. eqb (length (writers_requests xs)) 0) (of.free (r - length c.slots))
 
   banks_fit : resource_count c ≤ 16 → fits c (meaning.told b) (meaning.active b) ≡ true
   banks_fit few =

@@ -4,18 +4,18 @@ use Rattle.plan.specs.Contents.{Contents, processors}
 use Rattle.readers_writers.specs.Banks.{told_of}
 use Rattle.readers_writers.specs.Told.{told}
 use Rattle.readers_writers.specs.declared.lines.ReadersWriters.{ReadersWriters}
-use Rattle.slots.specs.Lines.{turn_limit as slotLimit}
-use Rattle.slots.specs.Of.{told_of as slotsToldOf, MadeFrom as SlotsOf}
+use Rattle.slots.specs.Lines.{turn_limit as slot_limit}
+use Rattle.slots.specs.Of.{told_of as slots_told_of, MadeFrom as SlotsOf}
 use Rattle.slots.specs.declared.slots.Slots.{Slots}
 use Rattle.event_run.specs.Said.{slots_told, readers_writers_told}
 use Rattle.event_run.proofs.SameTold.{Same}
 
-pub slots_same : (c : Contents) (s : Slots) → SlotsOf c s → Same (slotsToldOf s) (slots_told c)
+pub slots_same : (c : Contents) (s : Slots) → SlotsOf c s → Same (slots_told_of s) (slots_told c)
 slots_same c s made = record {
   resources = made.resources;
   each = λ r l. record {
     reads = refl;
-    limit = λ m. ap (λ n. slotLimit n ((slotsToldOf s).slots r)) made.seats ∙ ap (slotLimit (processors c)) (made.slots r l);
+    limit = λ m. ap (λ n. slot_limit n ((slots_told_of s).slots r)) made.seats ∙ ap (slot_limit (processors c)) (made.slots r l);
   };
 }
 

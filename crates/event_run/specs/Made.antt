@@ -4,13 +4,13 @@ use Rattle.bank.specs.declared.meaning.Bank.{Ghosts}
 use Rattle.pair.specs.Pairs.{pair_told, pair_active}
 use Rattle.pair.specs.declared.pair.Pair.{Pair}
 use Rattle.plan.specs.Contents.{Contents, processors}
-use Rattle.readers_writers.specs.Banks.{told_of as writersToldOf, active_of as writersActiveOf}
+use Rattle.readers_writers.specs.Banks.{told_of as writers_told_of, active_of as writers_active_of}
 use Rattle.readers_writers.specs.Of.{entries_of}
-use Rattle.readers_writers.specs.Told.{told as writersTold}
+use Rattle.readers_writers.specs.Told.{told as writers_told}
 use Rattle.readers_writers.specs.declared.lines.ReadersWriters.{ReadersWriters}
 use Rattle.rules.specs.Jobs.{Setup, Snapshot}
 use Rattle.rules.specs.Runs.{Fitting, Starts}
-use Rattle.slots.specs.Of.{told_of as slotsToldOf, active_of as slotsActiveOf, MadeFrom as SlotsOf}
+use Rattle.slots.specs.Of.{told_of as slots_told_of, active_of as slots_active_of, MadeFrom as SlotsOf}
 use Rattle.slots.specs.declared.slots.Slots.{Slots}
 
 abbrev pub Banks : Type 0
@@ -18,12 +18,12 @@ Banks = Pair Slots ReadersWriters
 
 -- what the pair tells, and its active requests
 abbrev pub meaning : Ghosts Banks
-meaning = record { told = λ b. pair_told (slotsToldOf b.first) (writersToldOf b.second); active = λ b. pair_active (slotsToldOf b.first) (slotsActiveOf b.first) (writersActiveOf b.second) }
+meaning = record { told = λ b. pair_told (slots_told_of b.first) (writers_told_of b.second); active = λ b. pair_active (slots_told_of b.first) (slots_active_of b.first) (writers_active_of b.second) }
 
 -- the banks of a plan, with nobody active
 pub record BanksOf (c : Contents) (b : Banks) : Type 0 where
   pub slots : SlotsOf c b.first
-  pub told : writersToldOf b.second ≡ writersTold c.reader_writers (processors c)
+  pub told : writers_told_of b.second ≡ writers_told c.reader_writers (processors c)
   pub free : (r : ℕ) → entries_of b.second.lines r ≡ []
 
 -- a controller that was just made from a plan over its banks: it has the plan's tasks and resources

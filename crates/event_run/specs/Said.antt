@@ -5,8 +5,8 @@ use Rattle.bank.specs.Questions.{Told}
 use Rattle.pair.specs.Pairs.{pair_told}
 use Rattle.plan.specs.Contents.{Contents, processors}
 use Rattle.plan_text.specs.Texts.{Verdict, decide, read_text}
-use Rattle.readers_writers.specs.Lines.{turn_limit as readerWriterLimit}
-use Rattle.slots.specs.Lines.{turn_limit as slotLimit}
+use Rattle.readers_writers.specs.Lines.{turn_limit as reader_writer_limit}
+use Rattle.slots.specs.Lines.{turn_limit as slot_limit}
 use Rattle.text.specs.Questions.{Question, ask, first_no}
 
 -- the bytes before the first empty line, if there is one: a newline where a line begins
@@ -39,10 +39,10 @@ refused_text question line = codes "plan,no," ++ (decimal question ++ (44 ∷ (d
 
 -- what the slots of a plan, its readers and writers, and the pair of both tell
 abbrev pub slots_told : Contents → Told
-slots_told c = record { resources = length c.slots; seats = processors c; slots = λ r. slice_index c.slots r; reads = λ _. false; limit = λ r _. slotLimit (processors c) (slice_index c.slots r) }
+slots_told c = record { resources = length c.slots; seats = processors c; slots = λ r. slice_index c.slots r; reads = λ _. false; limit = λ r _. slot_limit (processors c) (slice_index c.slots r) }
 
 abbrev pub readers_writers_told : Contents → Told
-readers_writers_told c = record { resources = c.reader_writers; seats = processors c; slots = λ _. 1; reads = λ _. true; limit = λ _ m. readerWriterLimit (processors c) m }
+readers_writers_told c = record { resources = c.reader_writers; seats = processors c; slots = λ _. 1; reads = λ _. true; limit = λ _ m. reader_writer_limit (processors c) m }
 
 abbrev pub plan_told : Contents → Told
 plan_told c = pair_told (slots_told c) (readers_writers_told c)

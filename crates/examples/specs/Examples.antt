@@ -7,9 +7,9 @@ use Rattle.bank.specs.declared.request.Request.{Request}
 use Rattle.item.specs.Lines.{read_item}
 use Rattle.plan.specs.Adding.{empty, line_questions}
 use Rattle.plan_text.specs.Texts.{read_text}
-use Rattle.readers_writers.specs.Lines.{entered, left, requests as readerWriterRequests}
+use Rattle.readers_writers.specs.Lines.{entered, left, requests as reader_writer_requests}
 use Rattle.readers_writers.specs.declared.entry.Entry.{Entry}
-use Rattle.slots.specs.Lines.{requests as slotRequests}
+use Rattle.slots.specs.Lines.{requests as slot_requests}
 use Rattle.slots.specs.Rows.{place}
 use Rattle.text.specs.Questions.{first_no}
 
@@ -43,8 +43,8 @@ entries es (leaves p ∷ calls) = entries (left es p) calls
 abbrev pub Holds : Example → Type 0
 Holds (line bytes question) = first_no (line_questions empty (read_item (bytes ++ (10 ∷ [])))) ≡ question
 Holds (refused text question at) = read_text text ≡ Err (question, at)
-Holds (slots k calls active) = slotRequests k (parties [] calls) ≡ active
-Holds (readers_writers calls active) = readerWriterRequests (entries [] calls) ≡ active
+Holds (slots k calls active) = slot_requests k (parties [] calls) ≡ active
+Holds (readers_writers calls active) = reader_writer_requests (entries [] calls) ≡ active
 
 abbrev pub holder : ℕ → Mode → Request
 holder p m = record { party = p; mode = m; holds = true; turns = 0; departures = 0 }

@@ -1,4 +1,6 @@
 //! The worked examples hold, in one proof over their list.
+#![tactic(auto)]
+
 ghost use Rattle.std.specs.Prelude.{◌≡◌, length};
 ghost use Rattle.examples.specs.Examples.{examples, AllHold};
 ghost use Rattle.examples.specs.Run.{RunHolds};

@@ -1,4 +1,6 @@
 //! An item of a plan, read from its line and written as its line.
+#![tactic(auto)]
+
 pub mod item;
 pub mod read;
 pub mod write;

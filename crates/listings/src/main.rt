@@ -1,4 +1,6 @@
 //! Runs each listing that an argument names: NAME.in must give NAME.out, however the input is cut.
+#![tactic(auto)]
+
 use dry_run::input::Input;
 use plan::plan::Plan;
 use std::{env, fs, io};

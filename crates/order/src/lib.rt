@@ -1,4 +1,6 @@
 //! Rows of ordered elements: how many come before one, and which comes first.
+#![tactic(auto)]
+
 pub mod elements;
 pub mod order;
 pub mod row;

@@ -4,7 +4,7 @@ ghost use Rattle.std.specs.List.{IsFirstBest};
 use crate::order::Ordered;
 
 fn count<T: Ordered>(row: &[T], x: &T) -> usize
-    ensures { result ≡ count_by (λ y. before y x.now) row.now }
+    ensures { result ≡ count_by (λ y. T.before y x.now) row.now }
 {
     let mut n = 0;
     for y in row {
@@ -17,7 +17,7 @@ fn count<T: Ordered>(row: &[T], x: &T) -> usize
 
 /// How many of a row come before x.
 pub fn count_before<T: Ordered>(row: &[T], x: &T) -> usize
-    ensures { result ≡ count_by (λ y. before y x.now) row.now }
+    ensures { result ≡ count_by (λ y. T.before y x.now) row.now }
 {
     count(row, x)
 }
@@ -25,7 +25,7 @@ pub fn count_before<T: Ordered>(row: &[T], x: &T) -> usize
 // The place of the first of a row that has one.
 fn first_place<T: Ordered>(row: &[T]) -> usize
     requires { 0 < length row.now }
-    ensures { IsFirstBest before row.now (length row.now) result }
+    ensures { IsFirstBest T.before row.now (length row.now) result }
 {
     let mut best = 0;
     for i in 1..row.len() {
@@ -38,7 +38,7 @@ fn first_place<T: Ordered>(row: &[T]) -> usize
 
 /// The place of the first of a row, if it has any.
 pub fn first_of<T: Ordered>(row: &[T]) -> Option<usize>
-    ensures { elim result [ None ↦ length row.now ≡ 0 | Some b ↦ IsFirstBest before row.now (length row.now) b ] }
+    ensures { elim result [ None ↦ length row.now ≡ 0 | Some b ↦ IsFirstBest T.before row.now (length row.now) b ] }
 {
     if row.len() == 0 {
         return None;

@@ -1,3 +1,5 @@
 //! A pair of banks is a bank.
+#![tactic(auto)]
+
 pub mod pair;
 pub mod within;

@@ -1,4 +1,6 @@
 //! A plan: its tables, a draft that takes lines, and the sealed plan.
+#![tactic(auto)]
+
 pub mod draft;
 pub mod plan;
 pub mod resource;

@@ -5,7 +5,7 @@ use Rattle.std.specs.List.{slice_get}
 use Rattle.std.proofs.lemmas.List.{take_more, drop_more, take-take, drop-take, length-take-le}
 use Rattle.std.proofs.lemmas.Bool.{false≢true, cond-true, cond-false, cases_Bool, ltb-true}
 use Rattle.std.proofs.lemmas.Bool.Decides.{nat_tests}
-use Rattle.bank.specs.Lists.{request_of as requestIn}
+use Rattle.bank.specs.Lists.{request_of as request_in}
 use Rattle.bank.specs.declared.request.Mode.TheVariants.{Write}
 use Rattle.readers_writers.specs.Lines.{some, count_of, is_writer, holder_of, removed, mode_of, reads_hold, writer_holds, request_of, requests_from}
 use Rattle.readers_writers.specs.Places.{place_of, read_held}
@@ -84,7 +84,7 @@ pub length_requests : (b : Bool) (h n : ℕ) (es : List Entry) → length (reque
 length_requests b h n [] = refl
 length_requests b h n (e ∷ es) = ap suc (length_requests b h (n + cond (is_writer e) 1 0) es)
 
-pub request_of_lem : (p : ℕ) (b : Bool) (h n : ℕ) (es : List Entry) → requestIn p (requests_from b h n es) ≡ slice_get (requests_from b h n es) (place_of (λ e. nat_eq e.party p) es)
+pub request_of_lem : (p : ℕ) (b : Bool) (h n : ℕ) (es : List Entry) → request_in p (requests_from b h n es) ≡ slice_get (requests_from b h n es) (place_of (λ e. nat_eq e.party p) es)
 request_of_lem p b h n [] = refl
 request_of_lem p b h n (e ∷ es) =
     let f : Entry → Bool = λ x. nat_eq x.party p in
@@ -92,8 +92,8 @@ request_of_lem p b h n (e ∷ es) =
     let xs = requests_from b h (n + cond (is_writer e) 1 0) es in
     let s : nat_eq a.party p ≡ f e = ap (λ q. nat_eq q p) (request_party b h n e) in
     ⊎_elim
-    (λ (t : f e ≡ true). cond-true (a.party == p) (Some a) (requestIn p xs) (s ∙ t) ∙ ap (slice_get (a ∷ xs)) (sym (place_here f e es t)))
-    (λ (t : f e ≡ false). cond-false (a.party == p) (Some a) (requestIn p xs) (s ∙ t) ∙ (request_of_lem p b h (n + cond (is_writer e) 1 0) es ∙ ap (slice_get (a ∷ xs)) (sym (place_there f e es t))))
+    (λ (t : f e ≡ true). cond-true (a.party == p) (Some a) (request_in p xs) (s ∙ t) ∙ ap (slice_get (a ∷ xs)) (sym (place_here f e es t)))
+    (λ (t : f e ≡ false). cond-false (a.party == p) (Some a) (request_in p xs) (s ∙ t) ∙ (request_of_lem p b h (n + cond (is_writer e) 1 0) es ∙ ap (slice_get (a ∷ xs)) (sym (place_there f e es t))))
     (cases_Bool (f e))
 
 pub nobody : (es : List Entry) → not (some (λ e. true) es) ≡ (length es == 0)

@@ -1,6 +1,6 @@
 -- Each refusal by its number and the task that it names, and how a call is refused.
 use Rattle.std.specs.Prelude.{◌≡◌, ℕ, Bool, true, false, cond, List, Some, None, Option}
-use Rattle.bank.specs.Questions.{number as bankNumber}
+use Rattle.bank.specs.Questions.{number as bank_number}
 use Rattle.text.specs.Questions.{Question, first_no}
 use Rattle.rules.specs.declared.refusal.Refusal.{Refusal}
 use Rattle.rules.specs.declared.refusal.Refusal.TheVariants.{NoTask, NoResource, NoMode, NoLength, NotIdle, ManyReleases, NotRunning, StillHolding, NotHolding, Late, ClockEnds, NoFit, Bank}
@@ -18,7 +18,7 @@ number NotHolding = 9
 number (Late task) = 10
 number ClockEnds = 11
 number NoFit = 24
-number (Bank why) = bankNumber why
+number (Bank why) = bank_number why
 
 abbrev pub task_named : Refusal → Option ℕ
 task_named NoTask = None

@@ -1,3 +1,5 @@
 //! Slots: a bank of slot resources.
+#![tactic(auto)]
+
 pub mod line;
 pub mod slots;

@@ -1,4 +1,6 @@
 //! Reads a plan up to its empty line from standard input, and prints what became of it.
+#![tactic(auto)]
+
 use dry_run::input::Input;
 use plan::plan::Plan;
 use std::io;

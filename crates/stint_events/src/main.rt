@@ -1,4 +1,6 @@
 //! Reads a plan and event lines from standard input, and prints the answers.
+#![tactic(auto)]
+
 ghost use Rattle.std.specs.Prelude.{◌+◌, ◌*◌, ◌≤◌, length};
 
 use event_run::run::DryRun;

@@ -1,4 +1,6 @@
 //! What the lines of plans share: decimal numbers, lines, memory handed in, refusals.
+#![tactic(auto)]
+
 pub mod line;
 pub mod memory;
 pub mod number;

@@ -1,6 +1,6 @@
 use Rattle.std.proofs.Common.{subst}
 use Rattle.plan.specs.Of.{plan_contents}
-use Rattle.readers_writers.specs.Banks.{told_of as writersToldOf}
+use Rattle.readers_writers.specs.Banks.{told_of as writers_told_of}
 use Rattle.slots.specs.Of.{told_of}
 use Rattle.text.specs.Memory.{Writes}
 use Rattle.dry_run.specs.Said.{slots_told, readers_writers_told}
@@ -13,7 +13,7 @@ returns c =
     let said = plan_contents c.args.plan.now in
     let slots = c.new.result in
     let writers = c.new-2.result in
-    let text = pair_text (told_of slots) (slots_told said) (writersToldOf writers) (readers_writers_told said) (slots_same said slots c.new.ensures) (readers_writers_same said writers c.new-2.ensures.told) said in
+    let text = pair_text (told_of slots) (slots_told said) (writers_told_of writers) (readers_writers_told said) (slots_same said slots c.new.ensures) (readers_writers_same said writers c.new-2.ensures.told) said in
     record {
       fits = c.write-limits.ensures.fits;
       writes = subst (λ bytes. Writes c.args.out.now 0 bytes c.write-limits.result c.write-limits.new.out) text c.write-limits.ensures.writes;

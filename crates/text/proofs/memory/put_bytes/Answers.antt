@@ -4,4 +4,4 @@ use Rattle.text.proofs.memory.put_bytes.Goals as goal
 
 pub returns : goal.returns
 returns c =
-    record { end = refl; text = rw c.copy-from-slice.ensures.after (overlay_part c.args.out.now c.args.at c.args.bytes.now _ (omega arith)) }
+    record { end = refl; text = rw c.copy_from_slice.ensures.after (overlay_part c.args.out.now c.args.at c.args.bytes.now _ (omega arith)) }

@@ -7,14 +7,14 @@ use Rattle.text.proofs.number.+put_digits.Goals as goal
 pub bounds-out-at : goal.bounds-out-at
 bounds-out-at t c = omega (arith, length_one c.args.n c.if-n-lt10.true)
 
-pub put-digits-end-requires : goal.put-digits-end-requires
-put-digits-end-requires t c = (omega arith, omega (arith, length_step c.args.n c.if-n-lt10.false (omega arith)))
+pub put_digits-end-requires : goal.put_digits-end-requires
+put_digits-end-requires t c = (omega arith, omega (arith, length_step c.args.n c.if-n-lt10.false (omega arith)))
 
 pub bounds-out-end : goal.bounds-out-end
 bounds-out-end t c = omega (arith, length_step c.args.n c.if-n-lt10.false (omega arith))
 
-pub overflow-add-result-else-n-lt10 : goal.overflow-add-result-else-n-lt10
-overflow-add-result-else-n-lt10 t c = omega (arith, length_step c.args.n c.if-n-lt10.false (omega arith))
+pub overflow_add-result-else-n-lt10 : goal.overflow_add-result-else-n-lt10
+overflow_add-result-else-n-lt10 t c = omega (arith, length_step c.args.n c.if-n-lt10.false (omega arith))
 
 pub returns-then-n-lt10 : goal.returns-then-n-lt10
 returns-then-n-lt10 t c = record { end = omega (arith, length_one c.args.n c.if-n-lt10.true); text = overlay_one c.args.out.now c.args.at (48 + c.args.n) (omega (arith, length_one c.args.n c.if-n-lt10.true)) ∙ ap (overlay c.args.out.now c.args.at) (sym (decimal_digit c.args.n c.if-n-lt10.true)) }
@@ -27,5 +27,5 @@ returns-else-n-lt10 t c =
     let size = length_step n c.if-n-lt10.false (omega arith) in
     record {
       end = omega arith;
-      text = simp (c.put-digits-end.ensures.text, c.put-digits-end.ensures.end) (overlay_push xs c.args.at front (48 + n % 10) (omega arith) ∙ ap (overlay xs c.args.at) (sym (decimal_step n c.if-n-lt10.false (omega arith))));
+      text = simp (c.put_digits-end.ensures.text, c.put_digits-end.ensures.end) (overlay_push xs c.args.at front (48 + n % 10) (omega arith) ∙ ap (overlay xs c.args.at) (sym (decimal_step n c.if-n-lt10.false (omega arith))));
     }

@@ -2,8 +2,8 @@ use Rattle.std.proofs.Common.{◌≡◌, ◌+◌, length, refl, ap, ◌∙◌}
 use Rattle.controller.specs.Of.{setup_of, snapshot_of}
 use Rattle.limits.specs.Lines.{limits_text}
 use Rattle.plan.specs.Of.{plan_contents}
-use Rattle.readers_writers.specs.Banks.{told_of as writersToldOf}
-use Rattle.slots.specs.Of.{told_of as slotsToldOf}
+use Rattle.readers_writers.specs.Banks.{told_of as writers_told_of}
+use Rattle.slots.specs.Of.{told_of as slots_told_of}
 use Rattle.text.specs.Memory.{overlay}
 use Rattle.event_run.specs.Made.{meaning}
 use Rattle.event_run.specs.Said.{plan_told, slots_told, readers_writers_told}
@@ -17,7 +17,7 @@ returns c =
     let said = plan_contents c.args.plan.now in
     let banks = c.banks-of-banks.result in
     let of = c.banks-of-banks.ensures in
-    let text : limits_text (meaning.told banks) said ≡ limits_text (plan_told said) said = pair_text (slotsToldOf banks.first) (slots_told said) (writersToldOf banks.second) (readers_writers_told said) (slots_same said banks.first of.slots) (readers_writers_same said banks.second of.told) said in
+    let text : limits_text (meaning.told banks) said ≡ limits_text (plan_told said) said = pair_text (slots_told_of banks.first) (slots_told said) (writers_told_of banks.second) (readers_writers_told said) (slots_same said banks.first of.slots) (readers_writers_same said banks.second of.told) said in
     let w = c.in-Ok.ensures.writes in
     record {
       laid = (w.1 ∙ ap (λ t. 0 + length t) text, w.2 ∙ ap (overlay c.args.out.now 0) text);
