@@ -11,4 +11,4 @@ returns-then-self-eq0 c =
 pub returns : goal.returns
 returns c =
     let t = c.args.self.now in
-    c.is-below.ensures ∙ sym (above_last t.lengths t.lengths_end c.args.task c.args.resource (omega arith) t.lengths_held.2 (t.lengths_ended (omega arith)))
+    c.is_below.ensures ∙ sym (above_last t.lengths t.lengths_end c.args.task c.args.resource (omega arith) t.lengths_held.2 (t.lengths_ended (omega arith)))

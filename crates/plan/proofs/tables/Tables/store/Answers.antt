@@ -11,15 +11,15 @@ use Rattle.plan.proofs.Grid.{above_behind}
 use Rattle.plan.proofs.Rows.{processors_few}
 use Rattle.plan.proofs.tables.Tables.store.Goals as goal
 
-pub overflow-cast-k : goal.overflow-cast-k
-overflow-cast-k c =
+pub overflow_cast-k : goal.overflow_cast-k
+overflow_cast-k c =
     let t = c.args.self.now in
     let few = processors_few t.clusters t.cluster_count t.clusters_held t.clusters_sized in
     let k : c.in-Slots.k ≤ processors (contents_of t) = grind (arith, nat_tests) in
     omega arith
 
-pub store-length-requires : goal.store-length-requires
-store-length-requires c =
+pub store_length-requires : goal.store_length-requires
+store_length-requires c =
     let t = c.args.self.now in
     let task = c.in-Length.task in
     let resource = c.in-Length.resource in

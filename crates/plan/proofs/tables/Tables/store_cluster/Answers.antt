@@ -4,31 +4,21 @@ use Rattle.plan.specs.Of.{declared}
 use Rattle.plan.proofs.Rows.{holds_more, between_more}
 use Rattle.plan.proofs.tables.Tables.store_cluster.Goals as goal
 
-pub invariant-of-self : goal.invariant-of-self
-invariant-of-self c =
+pub invariant_of-self : goal.invariant_of-self
+invariant_of-self c =
     let t = c.args.self.now in
-    let n = t.cluster_count in (
-      holds_more 8 t.clusters n c.args.c t.clusters_held (omega arith),
-      (
-        between_more 1 9 t.clusters n c.args.c (omega arith) t.clusters_sized (omega arith) (omega arith),
-        (
-          t.slots_held,
-          (
-            λ k l. absurd (omega arith),
-            (
-              t.resources_held,
-              (
-                t.tasks_held,
-                (
-                  λ k l. let o = t.tasks_placed k l in (omega arith, omega arith),
-                  (t.lengths_held, (t.lengths_declared, (t.lengths_ended, tt))),
-                ),
-              ),
-            ),
-          ),
-        ),
-      ),
-    )
+    let n = t.cluster_count in record {
+      clusters_held = holds_more 8 t.clusters n c.args.c t.clusters_held (omega arith);
+      clusters_sized = between_more 1 9 t.clusters n c.args.c (omega arith) t.clusters_sized (omega arith) (omega arith);
+      slots_held = t.slots_held;
+      slots_sized = λ k l. absurd (omega arith);
+      resources_held = t.resources_held;
+      tasks_held = t.tasks_held;
+      tasks_placed = λ k l. let o = t.tasks_placed k l in (omega arith, omega arith);
+      lengths_held = t.lengths_held;
+      lengths_declared = t.lengths_declared;
+      lengths_ended = t.lengths_ended;
+    }
 
 pub returns : goal.returns
 returns c =

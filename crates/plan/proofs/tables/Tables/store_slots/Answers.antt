@@ -4,31 +4,21 @@ use Rattle.plan.specs.Of.{declared}
 use Rattle.plan.proofs.Rows.{holds_more, between_more}
 use Rattle.plan.proofs.tables.Tables.store_slots.Goals as goal
 
-pub invariant-of-self : goal.invariant-of-self
-invariant-of-self c =
+pub invariant_of-self : goal.invariant_of-self
+invariant_of-self c =
     let t = c.args.self.now in
-    let n = t.slot_count in (
-      t.clusters_held,
-      (
-        t.clusters_sized,
-        (
-          holds_more 16 t.slots n c.args.k t.slots_held (omega arith),
-          (
-            between_more 1 (sum (take t.cluster_count t.clusters) + 1) t.slots n c.args.k (omega arith) t.slots_sized (omega arith) (omega arith),
-            (
-              omega arith,
-              (
-                t.tasks_held,
-                (
-                  t.tasks_placed,
-                  (t.lengths_held, (λ k. let o = t.lengths_declared k in (o.0, λ p. let q = o.1 p in (q.0, omega arith)), (t.lengths_ended, tt))),
-                ),
-              ),
-            ),
-          ),
-        ),
-      ),
-    )
+    let n = t.slot_count in record {
+      clusters_held = t.clusters_held;
+      clusters_sized = t.clusters_sized;
+      slots_held = holds_more 16 t.slots n c.args.k t.slots_held (omega arith);
+      slots_sized = between_more 1 (sum (take t.cluster_count t.clusters) + 1) t.slots n c.args.k (omega arith) t.slots_sized (omega arith) (omega arith);
+      resources_held = omega arith;
+      tasks_held = t.tasks_held;
+      tasks_placed = t.tasks_placed;
+      lengths_held = t.lengths_held;
+      lengths_declared = λ k. let o = t.lengths_declared k in (o.0, λ p. let q = o.1 p in (q.0, omega arith));
+      lengths_ended = t.lengths_ended;
+    }
 
 pub returns : goal.returns
 returns c =
