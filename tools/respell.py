@@ -2,7 +2,7 @@
 """Brings the names of definitions and lemmas to one spelling, words in snake case: respell.py, once, right after port.py.
 
 A name in camel case is respelled wherever it stands: clauses, specs/, proofs/, edits and pages. A name with dashes is a lemma's: it is
-respelled in .antt files, outside comments, and not behind a dot, where it is a name that Rattle made. Two names that would fall together
+respelled in .antt and .rt files, outside comments, and not behind a dot, where it is a name that Rattle made. Two names that would fall together
 have a spelling of their own below. Names in Rattle's source, strings, inputs and outputs stay.
 """
 import os
@@ -95,11 +95,11 @@ def main():
     pages = [p for p in ("README.md",) if os.path.exists(p)] + list(files("docs", (".md",)))
     for path in [*files("crates", (".antt", ".rt", ".edit")), *pages]:
         old = text(path)
-        proof = path.endswith(".antt")
+        code = path.endswith((".antt", ".rt"))
         new = []
         for line in old.split("\n"):
-            comment = proof and line.lstrip().startswith("--")
-            new.append(turned(line, camel, dashed if proof and not comment else set(), {} if comment else APART_IN.get(path, {})))
+            said = not code or line.lstrip().startswith(("--", "//"))
+            new.append(turned(line, camel, set() if said else dashed, {} if said else APART_IN.get(path, {})))
         new = "\n".join(new)
         if new != old:
             with open(path, "w", encoding="utf-8") as it:

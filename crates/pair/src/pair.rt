@@ -1,5 +1,5 @@
 ghost use Rattle.pair.specs.Pairs.{pair_told, pair_active};
-ghost use Rattle.pair.specs.Laws.{pair_small, pair-sound};
+ghost use Rattle.pair.specs.Laws.{pair_small, pair_sound};
 
 use crate::within::enter_within;
 use bank::meaning::Bank;
@@ -20,7 +20,7 @@ impl<A: Bank, B: Bank> Bank for Pair<A, B> {
 
     ghost small = { λ b. pair_small (A.Bank.told b.first) (B.Bank.told b.second) (A.Bank.small b.first) (B.Bank.small b.second) };
 
-    ghost sound = { λ b r lt. pair-sound (A.Bank.told b.first) (B.Bank.told b.second) (A.Bank.active b.first) (B.Bank.active b.second) (A.Bank.sound b.first) (B.Bank.sound b.second) r lt };
+    ghost sound = { λ b r lt. pair_sound (A.Bank.told b.first) (B.Bank.told b.second) (A.Bank.active b.first) (B.Bank.active b.second) (A.Bank.sound b.first) (B.Bank.sound b.second) r lt };
 
     fn resources(&self) -> u32 {
         let n = self.first.resources() + self.second.resources();

@@ -5,7 +5,7 @@ ghost use Rattle.readers_writers.specs.Exactly.{EntersExactly, LeavesExactly};
 ghost use Rattle.readers_writers.specs.Of.{Settled, entries_of};
 ghost use Rattle.readers_writers.specs.ReadersWritersBankLemmas.{low};
 ghost use Rattle.std.proofs.Common.{arith};
-ghost use Rattle.readers_writers.specs.BanksLemmas.{few-entries};
+ghost use Rattle.readers_writers.specs.BanksLemmas.{few_entries};
 ghost use Rattle.readers_writers.specs.Sound;
 
 use crate::lines::ReadersWriters;
@@ -23,7 +23,7 @@ impl Bank for ReadersWriters {
     ghost sound = { λ b r l.
         let k = b.kept r l in
         let m = b.most in
-        let n = few-entries b.lines b.count b.seats r b.kept b.most l in
+        let n = few_entries b.lines b.count b.seats r b.kept b.most l in
         Sound.sound b.count b.seats r (entries_of b.lines r) k.3 k.2 (omega arith) };
 
     fn resources(&self) -> u32 {

@@ -9,7 +9,7 @@ ghost use Rattle.slots.specs.Rows.{place};
 ghost use Rattle.slots.specs.Of.{holders_of, parties_of, told_of, active_of, refused_by, OthersStay, Full, EntersLast, LeavesPlace, NextHolds};
 ghost use Rattle.std.proofs.Common.{arith, div-le_self};
 ghost use Rattle.slots.specs.Requests.{limit_is};
-ghost use Rattle.slots.specs.Meaning.{is-sound};
+ghost use Rattle.slots.specs.Meaning.{is_sound};
 
 use crate::slots::Slots;
 use bank::meaning::Bank;
@@ -229,7 +229,7 @@ impl Bank for Slots {
           limits = λ r m l e. omega (arith, limit_is b.seats (holders_of b r) b.seated.0 (b.sized.2 r l), div-le_self (b.seats - 1) (holders_of b r));
         } };
 
-    ghost sound = { λ b r l. is-sound b r l };
+    ghost sound = { λ b r l. is_sound b r l };
 
     fn resources(&self) -> u32 {
         self.count as u32

@@ -14,8 +14,8 @@ loop-resource-preserved g c =
     let said = plan_contents c.args.plan.now in
     let r = c.loop-resource.resource in
     let inv = c.loop-resource.invariant in
-    let more = lays_more c.args.out.now 0 (lines_to t said r) c.loop-resource.end c.loop-resource.out (line_of t said r) c.lay-resource-end.result c.lay-resource-end.new.out inv.0 c.lay-resource-end.ensures.lays in
-    (subst (λ n. Lays c.args.out.now 0 (lines_to t said n) c.lay-resource-end.result c.lay-resource-end.new.out) (sym (add-one r)) more, omega (arith, inv.1, c.lay-resource-end.ensures.few))
+    let more = lays_more c.args.out.now 0 (lines_to t said r) c.loop-resource.end c.loop-resource.out (line_of t said r) c.lay_resource-end.result c.lay_resource-end.new.out inv.0 c.lay_resource-end.ensures.lays in
+    (subst (λ n. Lays c.args.out.now 0 (lines_to t said n) c.lay_resource-end.result c.lay_resource-end.new.out) (sym (add-one r)) more, omega (arith, inv.1, c.lay_resource-end.ensures.few))
 
 pub returns : goal.returns
 returns g c =

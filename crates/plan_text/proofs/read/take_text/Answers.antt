@@ -18,26 +18,26 @@ returns-in-Err c =
     let some : 0 < length rest = grind (arith, nat_tests) in
     let e = c.in-Err.ensures in
     let at : c.in-Err.refused.line ≡ n + 1 = omega arith in
-    (sym c.loop-rest.invariant.0 ∙ (line_refused tables (n + 1) rest c.first-line.result.0.now c.first-line.result.1.now some c.first-line.ensures (number c.in-Err.refused.refusal) e.0.0 ∙ ap (λ k. Err (number c.in-Err.refused.refusal, k)) (sym at)), refl)
+    (sym c.loop-rest.invariant.0 ∙ (line_refused tables (n + 1) rest c.first_line.result.0.now c.first_line.result.1.now some c.first_line.ensures (number c.in-Err.refused.refusal) e.0.0 ∙ ap (λ k. Err (number c.in-Err.refused.refusal, k)) (sym at)), refl)
 
 pub loop-rest-smaller : goal.loop-rest-smaller
 loop-rest-smaller c =
     let rest = c.loop-rest.rest.now in
     let test = c.loop-rest-test.ensures in
     let some : 0 < length rest = grind (arith, nat_tests) in
-    (cut_lines rest c.first-line.result.0.now c.first-line.result.1.now some c.first-line.ensures).1
+    (cut_lines rest c.first_line.result.0.now c.first_line.result.1.now some c.first_line.ensures).1
 
 pub loop-rest-preserved : goal.loop-rest-preserved
 loop-rest-preserved c =
     let rest = c.loop-rest.rest.now in
-    let more = c.first-line.result.1.now in
+    let more = c.first_line.result.1.now in
     let n = c.loop-rest.draft.lines in
     let test = c.loop-rest-test.ensures in
     let some : 0 < length rest = grind (arith, nat_tests) in
-    let less = (cut_lines rest c.first-line.result.0.now more some c.first-line.ensures).1 in
+    let less = (cut_lines rest c.first_line.result.0.now more some c.first_line.ensures).1 in
     let e = c.in-Ok.ensures in
     let at : c.in-Ok.next.lines ≡ n + 1 = omega arith in
-    let taken = line_taken (contents_of c.loop-rest.tables) (n + 1) rest c.first-line.result.0.now more some c.first-line.ensures (contents_of c.add.new.tables) e.0.0 e.0.1 in
+    let taken = line_taken (contents_of c.loop-rest.tables) (n + 1) rest c.first_line.result.0.now more some c.first_line.ensures (contents_of c.add.new.tables) e.0.0 e.0.1 in
     (ap (λ k. judge (contents_of c.add.new.tables) (k + 1) (map read_item (lines_of more))) at ∙ (sym taken ∙ c.loop-rest.invariant.0), omega arith)
 
 pub returns-in-Ok-seal : goal.returns-in-Ok-seal

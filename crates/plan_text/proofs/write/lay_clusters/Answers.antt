@@ -10,17 +10,17 @@ use Rattle.plan_text.proofs.write.lay_clusters.Goals as goal
 pub loop-cluster-init : goal.loop-cluster-init
 loop-cluster-init c = lays_none c.args.out.now c.args.at
 
-pub lay-item-end-requires : goal.lay-item-end-requires
-lay-item-end-requires c =
+pub lay_item-end-requires : goal.lay_item-end-requires
+lay_item-end-requires c =
     let items = cluster_items (plan_contents c.args.plan.now) in
     let l : c.loop-cluster.cluster < length items = omega (arith, length-map (plan_contents c.args.plan.now).clusters Cluster) in
-    next_fits items c.loop-cluster.cluster c.cluster-item.result l c.cluster-item.ensures c.args.out.now c.args.at c.loop-cluster.end c.loop-cluster.out c.loop-cluster.invariant c.requires
+    next_fits items c.loop-cluster.cluster c.cluster_item.result l c.cluster_item.ensures c.args.out.now c.args.at c.loop-cluster.end c.loop-cluster.out c.loop-cluster.invariant c.requires
 
 pub loop-cluster-preserved : goal.loop-cluster-preserved
 loop-cluster-preserved c =
     let items = cluster_items (plan_contents c.args.plan.now) in
     let l : c.loop-cluster.cluster < length items = omega (arith, length-map (plan_contents c.args.plan.now).clusters Cluster) in
-    lays_next items c.loop-cluster.cluster c.cluster-item.result l c.cluster-item.ensures c.args.out.now c.args.at c.loop-cluster.end c.loop-cluster.out c.loop-cluster.invariant c.lay-item-end.result c.lay-item-end.new.out c.lay-item-end.ensures
+    lays_next items c.loop-cluster.cluster c.cluster_item.result l c.cluster_item.ensures c.args.out.now c.args.at c.loop-cluster.end c.loop-cluster.out c.loop-cluster.invariant c.lay_item-end.result c.lay_item-end.new.out c.lay_item-end.ensures
 
 pub returns : goal.returns
 returns c =

@@ -7,8 +7,8 @@ use Rattle.plan_text.proofs.write.lay_lengths.Goals as goal
 pub loop-place-init : goal.loop-place-init
 loop-place-init c = lays_none c.args.out.now c.args.at
 
-pub lay-length-end-requires : goal.lay-length-end-requires
-lay-length-end-requires c =
+pub lay_length-end-requires : goal.lay_length-end-requires
+lay_length-end-requires c =
     let xs = c.args.plan.now.tables.lengths in
     let k = c.loop-place.place in
     let l : k < length xs = omega arith in
@@ -19,7 +19,7 @@ loop-place-preserved c =
     let xs = c.args.plan.now.tables.lengths in
     let k = c.loop-place.place in
     let l : k < length xs = omega arith in
-    lays_place xs k l c.args.out.now c.args.at c.loop-place.end c.loop-place.out c.loop-place.invariant c.lay-length-end.result c.lay-length-end.new.out c.lay-length-end.ensures
+    lays_place xs k l c.args.out.now c.args.at c.loop-place.end c.loop-place.out c.loop-place.invariant c.lay_length-end.result c.lay_length-end.new.out c.lay_length-end.ensures
 
 pub returns : goal.returns
 returns c =

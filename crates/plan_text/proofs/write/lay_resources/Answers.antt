@@ -8,17 +8,17 @@ use Rattle.plan_text.proofs.write.lay_resources.Goals as goal
 pub loop-resource-init : goal.loop-resource-init
 loop-resource-init c = lays_none c.args.out.now c.args.at
 
-pub lay-item-end-requires : goal.lay-item-end-requires
-lay-item-end-requires c =
+pub lay_item-end-requires : goal.lay_item-end-requires
+lay_item-end-requires c =
     let items = resource_items (plan_contents c.args.plan.now) in
     let l : c.loop-resource.resource < length items = omega (arith, length_resources (plan_contents c.args.plan.now)) in
-    next_fits items c.loop-resource.resource c.resource-item.result l c.resource-item.ensures c.args.out.now c.args.at c.loop-resource.end c.loop-resource.out c.loop-resource.invariant c.requires
+    next_fits items c.loop-resource.resource c.resource_item.result l c.resource_item.ensures c.args.out.now c.args.at c.loop-resource.end c.loop-resource.out c.loop-resource.invariant c.requires
 
 pub loop-resource-preserved : goal.loop-resource-preserved
 loop-resource-preserved c =
     let items = resource_items (plan_contents c.args.plan.now) in
     let l : c.loop-resource.resource < length items = omega (arith, length_resources (plan_contents c.args.plan.now)) in
-    lays_next items c.loop-resource.resource c.resource-item.result l c.resource-item.ensures c.args.out.now c.args.at c.loop-resource.end c.loop-resource.out c.loop-resource.invariant c.lay-item-end.result c.lay-item-end.new.out c.lay-item-end.ensures
+    lays_next items c.loop-resource.resource c.resource_item.result l c.resource_item.ensures c.args.out.now c.args.at c.loop-resource.end c.loop-resource.out c.loop-resource.invariant c.lay_item-end.result c.lay_item-end.new.out c.lay_item-end.ensures
 
 pub returns : goal.returns
 returns c =

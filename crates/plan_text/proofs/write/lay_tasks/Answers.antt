@@ -10,17 +10,17 @@ use Rattle.plan_text.proofs.write.lay_tasks.Goals as goal
 pub loop-task-init : goal.loop-task-init
 loop-task-init c = lays_none c.args.out.now c.args.at
 
-pub lay-item-end-requires : goal.lay-item-end-requires
-lay-item-end-requires c =
+pub lay_item-end-requires : goal.lay_item-end-requires
+lay_item-end-requires c =
     let items = task_items (plan_contents c.args.plan.now) in
     let l : c.loop-task.task < length items = omega (arith, length-map (plan_contents c.args.plan.now).tasks Task) in
-    next_fits items c.loop-task.task c.task-item.result l c.task-item.ensures c.args.out.now c.args.at c.loop-task.end c.loop-task.out c.loop-task.invariant c.requires
+    next_fits items c.loop-task.task c.task_item.result l c.task_item.ensures c.args.out.now c.args.at c.loop-task.end c.loop-task.out c.loop-task.invariant c.requires
 
 pub loop-task-preserved : goal.loop-task-preserved
 loop-task-preserved c =
     let items = task_items (plan_contents c.args.plan.now) in
     let l : c.loop-task.task < length items = omega (arith, length-map (plan_contents c.args.plan.now).tasks Task) in
-    lays_next items c.loop-task.task c.task-item.result l c.task-item.ensures c.args.out.now c.args.at c.loop-task.end c.loop-task.out c.loop-task.invariant c.lay-item-end.result c.lay-item-end.new.out c.lay-item-end.ensures
+    lays_next items c.loop-task.task c.task_item.result l c.task_item.ensures c.args.out.now c.args.at c.loop-task.end c.loop-task.out c.loop-task.invariant c.lay_item-end.result c.lay_item-end.new.out c.lay_item-end.ensures
 
 pub returns : goal.returns
 returns c =
