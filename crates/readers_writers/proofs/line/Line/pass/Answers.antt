@@ -13,6 +13,6 @@ returns-then-some-2 c =
     let es = list_of l in
     let both = and_from (is_write c.args.mode) (some collected es) (sym c.if-writes.ensures) (sym c.if-some-2.ensures) in
     record {
-      fits = (ap length c.reads-hold.ensures ∙ (length_reads l.entries ∙ c.requires.0), c.requires.1);
-      list = ap (take l.size) c.reads-hold.ensures ∙ (reads_take l.size l.entries ∙ sym (cond-false (some is_holder es) es _ (sym c.if-some.ensures) ∙ cond-true (is_write c.args.mode && some collected es) (reads_hold es) (writer_holds es) both));
+      fits = (ap length c.reads_hold.ensures ∙ (length_reads l.entries ∙ c.requires.0), c.requires.1);
+      list = ap (take l.size) c.reads_hold.ensures ∙ (reads_take l.size l.entries ∙ sym (cond-false (some is_holder es) es _ (sym c.if-some.ensures) ∙ cond-true (is_write c.args.mode && some collected es) (reads_hold es) (writer_holds es) both));
     }

@@ -12,8 +12,8 @@ within l p k fits z e =
     let n : length (list_of l) ≡ l.size = length-take-le l.size l.entries (omega arith) in
     omega (arith, place_within (holder_of p) (list_of l) z)
 
-pub offset-bounds-self-at : goal.offset-bounds-self-at
-offset-bounds-self-at c = let w = within c.args.self.now c.args.party c.place-at.result c.requires.0 c.requires.1 c.place-at.ensures in omega arith
+pub offset_bounds-self-at : goal.offset_bounds-self-at
+offset_bounds-self-at c = let w = within c.args.self.now c.args.party c.place-at.result c.requires.0 c.requires.1 c.place-at.ensures in omega arith
 
 pub bounds-self-at : goal.bounds-self-at
 bounds-self-at c = let w = within c.args.self.now c.args.party c.place-at.result c.requires.0 c.requires.1 c.place-at.ensures in omega arith

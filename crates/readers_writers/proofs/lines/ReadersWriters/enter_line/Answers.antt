@@ -25,16 +25,19 @@ returns-then-line-self c =
     let n = few_entries b.lines b.count b.seats c.args.resource b.kept b.most c.if-resource-self.false in
     record { told = refl; enters = enter_seat b.count b.seats c.args.resource c.args.party c.args.mode (entries_of b.lines c.args.resource) c.if-resource-self.false c.if-party-ge64.false (sym c.if-some.ensures) (omega arith); keeps = refl; exact = refl; settled = settles b.lines b.count b.seats b.kept }
 
-pub invariant-of-self : goal.invariant-of-self
-invariant-of-self c =
+pub invariant_of-self : goal.invariant_of-self
+invariant_of-self c =
     let b = c.args.self.now in
     let r = c.args.resource in
     let new = c.enter-holds.new.self in
     let a = c.if-resource-self.false in
-    let n = few_entries b.lines b.count b.seats r b.kept b.most a in (
-      length-set b.lines r new ∙ b.long,
-      (b.few, (b.seated, (b.most, (keep_entered b.lines b.count b.seats r c.args.party new a c.if-party-ge64.false (omega arith) b.kept c.args.mode b.most (omega arith) c.enter-holds.ensures.fits c.enter-holds.ensures.list, tt)))),
-    )
+    let n = few_entries b.lines b.count b.seats r b.kept b.most a in record {
+      long = length-set b.lines r new ∙ b.long;
+      few = b.few;
+      seated = b.seated;
+      most = b.most;
+      kept = keep_entered b.lines b.count b.seats r c.args.party new a c.if-party-ge64.false (omega arith) b.kept c.args.mode b.most (omega arith) c.enter-holds.ensures.fits c.enter-holds.ensures.list;
+    }
 
 pub returns : goal.returns
 returns c =

@@ -19,14 +19,17 @@ returns-then-not-some c =
     let b = c.args.self.now in
     record { told = refl; leaves = leave_holder b.count b.seats c.args.resource c.args.party (entries_of b.lines c.args.resource) c.if-resource-self.false c.if-party-ge64.false (sym c.if-not-some.ensures); keeps = refl; exact = refl; settled = settles b.lines b.count b.seats b.kept }
 
-pub invariant-of-self : goal.invariant-of-self
-invariant-of-self c =
+pub invariant_of-self : goal.invariant_of-self
+invariant_of-self c =
     let b = c.args.self.now in
     let r = c.args.resource in
-    let new = c.leave.new.self in (
-      length-set b.lines r new ∙ b.long,
-      (b.few, (b.seated, (b.most, (keep_left b.lines b.count b.seats r c.args.party new c.if-resource-self.false c.if-party-ge64.false (omega arith) b.kept b.most (sym c.if-not-some.ensures) c.leave.ensures.fits c.leave.ensures.list, tt)))),
-    )
+    let new = c.leave.new.self in record {
+      long = length-set b.lines r new ∙ b.long;
+      few = b.few;
+      seated = b.seated;
+      most = b.most;
+      kept = keep_left b.lines b.count b.seats r c.args.party new c.if-resource-self.false c.if-party-ge64.false (omega arith) b.kept b.most (sym c.if-not-some.ensures) c.leave.ensures.fits c.leave.ensures.list;
+    }
 
 pub returns : goal.returns
 returns c =

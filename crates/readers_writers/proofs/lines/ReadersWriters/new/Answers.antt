@@ -18,13 +18,18 @@ free = record { entries = replicate 64 blank; size = 0 }
 keep_free : (m n r : ℕ) → r < n → Keeping m (get_or (replicate n free) r (record { entries = []; size = 0 }))
 keep_free m n r l = subst (Keeping m) (sym (get_or-replicate n r free (record { entries = []; size = 0 }) l)) (refl, omega arith, refl, refl)
 
-pub invariant-of-result : goal.invariant-of-result
-invariant-of-result c =
+pub invariant_of-result : goal.invariant_of-result
+invariant_of-result c =
     let t = c.args.plan.now.tables in
     let has = c.args.plan.now.has_cluster in
     let few = processors_few t.clusters t.cluster_count t.clusters_held t.clusters_sized in
     let one = some_processor t.clusters t.cluster_count has (t.clusters_sized 0 has).0 in
-    let w = c.reader-writers-count.ensures in
-    let m = c.all-processors-seats.ensures in
-    let held = t.resources_held in
-    (refl, (omega arith, (omega arith, (omega arith, (λ r l. keep_free _ 16 r (omega arith), tt)))))
+    let w = c.reader_writers-count.ensures in
+    let m = c.all_processors-seats.ensures in
+    let held = t.resources_held in record {
+      long = refl;
+      few = omega arith;
+      seated = omega arith;
+      most = omega arith;
+      kept = λ r l. keep_free _ 16 r (omega arith);
+    }

@@ -7,10 +7,10 @@ use Rattle.slots.proofs.slots.Slots.new.Goals as goal
 pub idle-requires : goal.idle-requires
 idle-requires c =
     let t = c.args.plan.now.tables in
-    let o = c.slots-of-count.ensures in
+    let o = c.slots_of-count.ensures in
     let n = t.slot_count in
     let g = t.cluster_count in
-    let m = c.all-processors.ensures in
+    let m = c.all_processors.ensures in
     let long = length-take-le n t.slots (omega arith) in
     let one = c.args.plan.now.has_cluster in
     let some = length-take-le g t.clusters (omega arith) in
