@@ -15,6 +15,6 @@ returns c =
     let writers = c.new-2.result in
     let text = pair_text (told_of slots) (slots_told said) (writers_told_of writers) (readers_writers_told said) (slots_same said slots c.new.ensures) (readers_writers_same said writers c.new-2.ensures.told) said in
     record {
-      fits = c.write-limits.ensures.fits;
-      writes = subst (λ bytes. Writes c.args.out.now 0 bytes c.write-limits.result c.write-limits.new.out) text c.write-limits.ensures.writes;
+      fits = c.write_limits.ensures.fits;
+      writes = subst (λ bytes. Writes c.args.out.now 0 bytes c.write_limits.result c.write_limits.new.out) text c.write_limits.ensures.writes;
     }

@@ -7,4 +7,4 @@ use Rattle.event.proofs.read.field.Goals as goal
 pub returns-in-44 : goal.returns-in-44
 returns-in-44 c =
     let s = c.args.s.now in
-    ap read_field (head_rest s (search rules)) ∙ (cond-true _ _ _ (eq-eqb (get_or s 0 0) 44 (search rules)) ∙ c.read-number.ensures.read)
+    ap read_field (head_rest s (search rules)) ∙ (cond-true _ _ _ (eq-eqb (get_or s 0 0) 44 (search rules)) ∙ c.read_number.ensures.read)

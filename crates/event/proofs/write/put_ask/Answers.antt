@@ -2,8 +2,8 @@ use Rattle.std.proofs.Common.{[], ◌∷◌, ◌++◌, codes, decimal, append_as
 use Rattle.text.proofs.Puts.{puts_more, puts_whole}
 use Rattle.event.proofs.write.put_ask.Goals as goal
 
-pub returns-in-err-end : goal.returns-in-err-end
-returns-in-err-end c = search (rules, length-append)
+pub returns-in_err-end : goal.returns-in_err-end
+returns-in_err-end c = search (rules, length-append)
 
 pub returns : goal.returns
-returns c = simp append_assoc at (puts_more c.args.out.now c.args.at (codes "A," ++ (decimal c.args.task ++ (44 ∷ []))) _ _ _ _ _ c.in-ok-end.ensures (puts_whole _ _ _ _ _ c.write-field.ensures))
+returns c = simp append_assoc at (puts_more c.args.out.now c.args.at (codes "A," ++ (decimal c.args.task ++ (44 ∷ []))) _ _ _ _ _ c.in_ok-end.ensures (puts_whole _ _ _ _ _ c.write_field.ensures))

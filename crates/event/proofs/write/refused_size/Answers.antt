@@ -5,5 +5,5 @@ use Rattle.event.proofs.write.refused_size.Goals as goal
 pub returns-in-Late : goal.returns-in-Late
 returns-in-Late c = search (rules, length-append, ten_size)
 
-pub returns-in-default : goal.returns-in-default
-returns-in-default c = search (rules, length-append)
+pub returns-in_default : goal.returns-in_default
+returns-in_default c = search (rules, length-append)

@@ -11,7 +11,7 @@ loop-q-preserved c =
       length-set _ _ _ ∙ c.loop-q.invariant.0,
       below_more _ _
           (λ k h. let ne : k ≢ c.loop-q.q = omega arith in rw get_or-set_other (c.loop-q.invariant.1 k h))
-          (get_or-set_same _ _ _ _ lt ∙ c.job-at.ensures),
+          (get_or-set_same _ _ _ _ lt ∙ c.job_at.ensures),
       λ k h. let ne : k ≢ c.loop-q.q = omega arith in rw get_or-set_other (c.loop-q.invariant.2 k (omega arith)),
     )
 

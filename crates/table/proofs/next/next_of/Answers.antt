@@ -9,4 +9,4 @@ returns c told k =
     let p = plan_contents c.args.plan.now in
     let n = c.args.tasks in
     let rows = c.args.rows.now in
-    c.earliest-first.ensures told k ∙ ap (λ g. if_first (setup_with p told n k) (jobs_of n rows) (earliest_of p n rows g)) c.cluster-of.ensures
+    c.earliest_first.ensures told k ∙ ap (λ g. if_first (setup_with p told n k) (jobs_of n rows) (earliest_of p n rows g)) c.cluster_of.ensures

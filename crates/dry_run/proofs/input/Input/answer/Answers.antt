@@ -11,17 +11,17 @@ pub returns-in-Ok : goal.returns-in-Ok
 returns-in-Ok c =
     let said_of = plan_contents c.read.new.into in
     record {
-      says = λ input fed. subst (λ v. Writes c.args.out.now 0 (said v) c.write-plan-limits.result c.write-plan-limits.new.out) (sym (c.in-Ok.ensures input fed)) c.write-plan-limits.ensures.writes;
+      says = λ input fed. subst (λ v. Writes c.args.out.now 0 (said v) c.write_plan_limits.result c.write_plan_limits.new.out) (sym (c.in-Ok.ensures input fed)) c.write_plan_limits.ensures.writes;
       leaves = λ input fed. subst (λ v. LeavesPlan v c.args.plan.now c.read.new.into) (sym (c.in-Ok.ensures input fed)) refl;
-      within = written_within c.args.out.now (limits_text (plan_told said_of) said_of) c.write-plan-limits.result c.write-plan-limits.new.out c.write-plan-limits.ensures.writes;
-      fits = λ room. c.write-plan-limits.ensures.fits (omega arith);
+      within = written_within c.args.out.now (limits_text (plan_told said_of) said_of) c.write_plan_limits.result c.write_plan_limits.new.out c.write_plan_limits.ensures.writes;
+      fits = λ room. c.write_plan_limits.ensures.fits (omega arith);
     }
 
 pub returns-in-Err : goal.returns-in-Err
 returns-in-Err c =
     record {
-      says = λ input fed. subst (λ v. Writes c.args.out.now 0 (said v) c.write-refused.result c.write-refused.new.out) (sym (c.in-Err.ensures input fed).0) c.write-refused.ensures;
+      says = λ input fed. subst (λ v. Writes c.args.out.now 0 (said v) c.write_refused.result c.write_refused.new.out) (sym (c.in-Err.ensures input fed).0) c.write_refused.ensures;
       leaves = λ input fed. subst (λ v. LeavesPlan v c.args.plan.now c.read.new.into) (sym (c.in-Err.ensures input fed).0) (c.in-Err.ensures input fed).1;
-      within = written_within c.args.out.now (refused_text (number c.in-Err.why.refusal) c.in-Err.why.line) c.write-refused.result c.write-refused.new.out c.write-refused.ensures;
-      fits = λ room. fits_written c.args.out.now (refused_text (number c.in-Err.why.refusal) c.in-Err.why.line) c.write-refused.result c.write-refused.new.out c.write-refused.ensures (omega (arith, refused_short c.in-Err.why.refusal c.in-Err.why.line (omega arith)));
+      within = written_within c.args.out.now (refused_text (number c.in-Err.why.refusal) c.in-Err.why.line) c.write_refused.result c.write_refused.new.out c.write_refused.ensures;
+      fits = λ room. fits_written c.args.out.now (refused_text (number c.in-Err.why.refusal) c.in-Err.why.line) c.write_refused.result c.write_refused.new.out c.write_refused.ensures (omega (arith, refused_short c.in-Err.why.refusal c.in-Err.why.line (omega arith)));
     }

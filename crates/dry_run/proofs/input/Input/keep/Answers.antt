@@ -7,4 +7,4 @@ returns-in-Ok c =
     let s = c.args.self.now in
     let e = c.in-Ok.ensures in
     let n = c.room-taken.result - 0 in
-    ap (λ k. take k c.write-bytes.new.out) e.1 ∙ (ap (take (s.size + length (take n c.args.chunk.now))) e.2 ∙ kept_more s.text c.args.chunk.now s.size n s.long s.few (omega arith))
+    ap (λ k. take k c.write_bytes.new.out) e.1 ∙ (ap (take (s.size + length (take n c.args.chunk.now))) e.2 ∙ kept_more s.text c.args.chunk.now s.size n s.long s.few (omega arith))

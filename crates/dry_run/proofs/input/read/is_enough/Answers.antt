@@ -6,4 +6,4 @@ pub returns-in-Some : goal.returns-in-Some
 returns-in-Some c = enough_found c.args.input.now _ c.requires c.in-Some.ensures.part
 
 pub returns-in-None : goal.returns-in-None
-returns-in-None c = c.is-full.ensures ∙ enough_found c.args.input.now None c.requires c.in-None.ensures.part
+returns-in-None c = c.is_full.ensures ∙ enough_found c.args.input.now None c.requires c.in-None.ensures.part
