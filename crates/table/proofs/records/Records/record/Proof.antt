@@ -174,9 +174,9 @@ meets T L {𝓤 = 𝓤} 𝓛 𝓣 =
     let G : SProp 𝓤 = fact 𝓤 (a.1.0 < 64) in
     via 𝓤 (sep 𝓤 (sep 𝓤 P F) G) (assoc' 𝓤 P F G) (needs 𝓤 (a.1.0 < 64) (sep 𝓤 P F) (λ li. needs 𝓤 (size (layout (S T L)) < 2 ^ 63) P (λ fit. walk T L 𝓛 κs.0 qs.0 a.0.ref_ptr.0 a.0.ref_ptr.1 a.0.ghost_name a.0.now a.1.0 are.1.0.1 𝓣.C 𝓣.Λ fit li)))))
 
-pub record-spec : {M : Type 1} → stated.statement M
+pub record_spec : {M : Type 1} → stated.statement M
 unfolding tables_of
-record-spec 𝓤 𝓛 𝓜 𝓡 wired T L y =
+record_spec 𝓤 𝓛 𝓜 𝓡 wired T L y =
     let A = 𝓛.A in
     let 𝓣 : Tables 𝓤 𝓛.H = tables_of 𝓤 𝓛.H 𝓜 (tables 𝓤 𝓛.H 𝓜 𝓡 𝓡.env) in
     spared 𝓛 (ended T L).signature (𝓡.run (𝓡.env (#self (layouts (a_type ∷ []) (T, tt))))) (run_framed 𝓤 𝓛.H 𝓜 𝓡 (𝓡.env (#self (layouts (a_type ∷ []) (T, tt))))) 1 (T.lives, tt) (closing 𝓛 (ended T L) (spec T L 𝓛))
