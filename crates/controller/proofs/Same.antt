@@ -3,6 +3,7 @@ use Rattle.std.proofs.Common.{◌≡◌, ℕ, ◌≤◌, min, List, length, get_
 use mathlib.Core.HLevel.{is_prop→PathP}
 use denote.Struct.Props.{props}
 use Rattle.bank.specs.Questions.{Told}
+use Rattle.bank.specs.declared.meaning.Bank.{Ghosts}
 use Rattle.plan.specs.Contents.{Contents, resource_count}
 use Rattle.plan.specs.Of.{plan_contents}
 use Rattle.rules.specs.Jobs.{Setup}
@@ -20,7 +21,7 @@ long_prop rows = hlevel props
 few_prop : (rows : List Task) (n : ℕ) → IsProp ((q : ℕ) → (get_or rows q idle_task).blocked ≤ n)
 few_prop rows n = hlevel props
 
-pub same_controllers : {X : Type 0} (c d : Controller X) → c.plan ≡ d.plan → c.tasks ≡ d.tasks → c.resources ≡ d.resources → c.table ≡ d.table → c.clock ≡ d.clock → c.releases ≡ d.releases → c.bank ≡ d.bank → c ≡ d
+pub same_controllers : {X : Type 0} {b : Ghosts X} (c d : Controller X b) → c.plan ≡ d.plan → c.tasks ≡ d.tasks → c.resources ≡ d.resources → c.table ≡ d.table → c.clock ≡ d.clock → c.releases ≡ d.releases → c.bank ≡ d.bank → c ≡ d
 same_controllers c d p t r k w n b =
     λ i. record {
       plan = p i;

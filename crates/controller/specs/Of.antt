@@ -8,10 +8,10 @@ pub use Rattle.table.specs.Rows.{tasks_in}
 use Rattle.controller.specs.declared.controller.Controller.{Controller}
 
 -- a resource is one of the controller's and of the bank's
-abbrev pub setup_of : {X : Type 0} → Ghosts X → Controller X → Setup
+abbrev pub setup_of : {X : Type 0} (b : Ghosts X) → Controller X b → Setup
 setup_of b c = record { plan = plan_contents c.plan; told = b.told c.bank; tasks = c.tasks; resources = min c.resources (b.told c.bank).resources }
 
-abbrev pub snapshot_of : {X : Type 0} → Ghosts X → Controller X → Snapshot
+abbrev pub snapshot_of : {X : Type 0} (b : Ghosts X) → Controller X b → Snapshot
 snapshot_of b c = record { tasks = tasks_in c.tasks c.table.rows; lists = b.active c.bank; clock = c.clock; releases = c.releases }
 
 -- a refusal leaves the same value

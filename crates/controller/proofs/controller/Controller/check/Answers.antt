@@ -9,7 +9,7 @@ use Rattle.controller.proofs.Tasks.{task_here}
 use Rattle.controller.proofs.controller.Controller.check.Goals as goal
 
 pub admits-requires : goal.admits-requires
-admits-requires g c κs e =
+admits-requires g c e =
     let self = c.args.self.now in
     let a = setup_of g.B.Bank self in
     let s = snapshot_of g.B.Bank self in

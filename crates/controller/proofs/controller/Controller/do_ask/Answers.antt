@@ -22,7 +22,7 @@ returns-in-Err g c =
       setup = same_setup (plan_contents self.plan) self.tasks self.resources _ _ e.told;
       does =
           record {
-            answered = ask_refused a s c.args.task c.args.resource c.args.mode c.is-first-first.result c.in-Err.why _ (c.is-first-first.ensures a.told a.resources) c.in-ok-check-ask.ensures e.asks;
+            answered = ask_refused a s c.args.task c.args.resource c.args.mode c.is_first-first.result c.in-Err.why _ (c.is_first-first.ensures a.told a.resources) c.in_ok-check_ask.ensures e.asks;
             tasks = λ q. refl;
             clock = refl;
             releases = refl;
@@ -38,16 +38,16 @@ returns g c =
     let s = snapshot_of b self in
     let t = c.args.task in
     let e = c.in-Ok.ensures in
-    let known = c.in-ok-check-ask.ensures in
+    let known = c.in_ok-check_ask.ensures in
     let lt : t < self.tasks = ltb-true _ _ (yes_parts 1 _ _ known).0 in
     let here : t < 64 = omega arith in
     let wanted : Wanted = record { resource = c.args.resource; mode = c.args.mode } in
-    let new : c.store.new.self.rows ≡ set self.table.rows t (in_state (asked_state c.in-Ok.answer wanted) (get_or self.table.rows t idle_task)) = c.store.ensures.stored here ∙ ap (set self.table.rows t) (c.in-state-record.ensures ∙ ap (λ (st : State). in_state st (get_or self.table.rows t idle_task)) c.asked-state-state.ensures) in
+    let new : c.store.new.self.rows ≡ set self.table.rows t (in_state (asked_state c.in-Ok.answer wanted) (get_or self.table.rows t idle_task)) = c.store.ensures.stored here ∙ ap (set self.table.rows t) (c.in_state-record.ensures ∙ ap (λ (st : State). in_state st (get_or self.table.rows t idle_task)) c.asked_state-state.ensures) in
     record {
       setup = same_setup (plan_contents self.plan) self.tasks self.resources _ _ e.told;
       does =
           record {
-            answered = ask_answered a s t c.args.resource c.args.mode c.is-first-first.result c.in-Ok.answer _ (c.is-first-first.ensures a.told a.resources) known e.asks;
+            answered = ask_answered a s t c.args.resource c.args.mode c.is_first-first.result c.in-Ok.answer _ (c.is_first-first.ensures a.told a.resources) known e.asks;
             tasks = tasks_moved self.tasks self.table.rows c.store.new.self.rows t (in_state (asked_state c.in-Ok.answer wanted)) lt self.few_tasks self.all_records new;
             clock = refl;
             releases = refl;

@@ -20,7 +20,7 @@ returns-in-None g c =
     let s = snapshot_of b self in
     let t = c.args.task in
     let rows = self.table.rows in
-    let own = c.in-ok-check.ensures in
+    let own = c.in_ok-check.ensures in
     let lt : t < self.tasks = ltb-true _ _ (yes_parts 1 _ _ own).0 in
     let ended : (q : ℕ) → tasks_in self.tasks (set rows t idle_task) q ≡ cond (eqb t q) idle_task (tasks_in self.tasks rows q) = tasks_written self.tasks rows (set rows t idle_task) t idle_task lt self.few_tasks self.all_records refl in
     record {
@@ -44,18 +44,18 @@ returns-in-Err g c =
     let t = c.args.task in
     let u = c.in-Some.next in
     let rows = self.table.rows in
-    let own = c.in-ok-check.ensures in
+    let own = c.in_ok-check.ensures in
     let next = c.in-Some.ensures in
     let e = c.in-Err.ensures in
     let lt : t < self.tasks = ltb-true _ _ (yes_parts 1 _ _ own).0 in
     let ended : (q : ℕ) → tasks_in self.tasks (set rows t idle_task) q ≡ cond (eqb t q) idle_task (tasks_in self.tasks rows q) = tasks_written self.tasks rows (set rows t idle_task) t idle_task lt self.few_tasks self.all_records refl in
     let there : tasks_in self.tasks (set rows t idle_task) u ≡ tasks_in self.tasks rows u = next_other _ _ (eqb t u) (ended u) next.known.1 in
-    let wanted : c.wanted-of-wanted.result ≡ wanted_of (tasks_in self.tasks rows u).state = c.wanted-of-wanted.ensures ∙ ap (λ (k : Task). wanted_of k.state) (sym (task_here self.tasks (set rows t idle_task) u next.known.0) ∙ there) in
+    let wanted : c.wanted_of-wanted.result ≡ wanted_of (tasks_in self.tasks rows u).state = c.wanted_of-wanted.ensures ∙ ap (λ (k : Task). wanted_of k.state) (sym (task_here self.tasks (set rows t idle_task) u next.known.0) ∙ there) in
     record {
       setup = same_setup (plan_contents self.plan) self.tasks self.resources _ _ e.told;
       does =
           record {
-            answered = finish_refused a s t own u c.in-Err.why c.wanted-of-wanted.result _ (next.next a.told a.resources ∙ next_same a s t (tasks_in self.tasks (set rows t idle_task)) ended) wanted e.enters (ap b.active e.keeps);
+            answered = finish_refused a s t own u c.in-Err.why c.wanted_of-wanted.result _ (next.next a.told a.resources ∙ next_same a s t (tasks_in self.tasks (set rows t idle_task)) ended) wanted e.enters (ap b.active e.keeps);
             tasks = λ q. refl;
             clock = refl;
             releases = refl;
@@ -72,23 +72,23 @@ returns-in-Ok g c =
     let t = c.args.task in
     let u = c.in-Some.next in
     let rows = self.table.rows in
-    let own = c.in-ok-check.ensures in
+    let own = c.in_ok-check.ensures in
     let next = c.in-Some.ensures in
     let e = c.in-Ok.ensures in
     let lt : t < self.tasks = ltb-true _ _ (yes_parts 1 _ _ own).0 in
     let ended : (q : ℕ) → tasks_in self.tasks (set rows t idle_task) q ≡ cond (eqb t q) idle_task (tasks_in self.tasks rows q) = tasks_written self.tasks rows (set rows t idle_task) t idle_task lt self.few_tasks self.all_records refl in
     let there : tasks_in self.tasks (set rows t idle_task) u ≡ tasks_in self.tasks rows u = next_other _ _ (eqb t u) (ended u) next.known.1 in
     let job = get_or (set rows t idle_task) u idle_task in
-    let wanted : c.wanted-of-wanted.result ≡ wanted_of (tasks_in self.tasks rows u).state = c.wanted-of-wanted.ensures ∙ ap (λ (k : Task). wanted_of k.state) (sym (task_here self.tasks (set rows t idle_task) u next.known.0) ∙ there) in
+    let wanted : c.wanted_of-wanted.result ≡ wanted_of (tasks_in self.tasks rows u).state = c.wanted_of-wanted.ensures ∙ ap (λ (k : Task). wanted_of k.state) (sym (task_here self.tasks (set rows t idle_task) u next.known.0) ∙ there) in
     let issued : Task → Task = λ k. in_state (issued_state c.in-Ok.holds (wanted_of k.state)) k in
     let long : length (set rows t idle_task) ≡ 64 = length-set rows t idle_task ∙ self.all_records in
-    let new : set (set rows t idle_task) u c.in-state.result ≡ set (set rows t idle_task) u (issued job) = ap (set (set rows t idle_task) u) (c.in-state.ensures ∙ ap (λ (st : State). in_state st job) (c.issued-state.ensures ∙ ap (issued_state c.in-Ok.holds) c.wanted-of-wanted.ensures)) in
+    let new : set (set rows t idle_task) u c.in_state.result ≡ set (set rows t idle_task) u (issued job) = ap (set (set rows t idle_task) u) (c.in_state.ensures ∙ ap (λ (st : State). in_state st job) (c.issued_state.ensures ∙ ap (issued_state c.in-Ok.holds) c.wanted_of-wanted.ensures)) in
     record {
       setup = same_setup (plan_contents self.plan) self.tasks self.resources _ _ e.told;
       does =
           record {
-            answered = finish_issued a s t own (get_or rows t idle_task).blocked u c.in-Ok.holds c.wanted-of-wanted.result _ (next.next a.told a.resources ∙ next_same a s t (tasks_in self.tasks (set rows t idle_task)) ended) (ap (λ (k : Task). k.blocked) (sym (task_here self.tasks rows t lt))) wanted e.enters;
-            tasks = λ q. tasks_moved self.tasks (set rows t idle_task) (set (set rows t idle_task) u c.in-state.result) u issued next.known.0 self.few_tasks long new q ∙ ap (λ (k : Task). cond (eqb u q) (issued k) k) (ended q);
+            answered = finish_issued a s t own (get_or rows t idle_task).blocked u c.in-Ok.holds c.wanted_of-wanted.result _ (next.next a.told a.resources ∙ next_same a s t (tasks_in self.tasks (set rows t idle_task)) ended) (ap (λ (k : Task). k.blocked) (sym (task_here self.tasks rows t lt))) wanted e.enters;
+            tasks = λ q. tasks_moved self.tasks (set rows t idle_task) (set (set rows t idle_task) u c.in_state.result) u issued next.known.0 self.few_tasks long new q ∙ ap (λ (k : Task). cond (eqb u q) (issued k) k) (ended q);
             clock = refl;
             releases = refl;
           };

@@ -20,7 +20,7 @@ returns-in-Err g c =
     let s = snapshot_of b self in
     let t = c.args.task in
     let e = c.in-Err.ensures in
-    let known = c.in-ok-check.ensures in
+    let known = c.in_ok-check.ensures in
     let lt : t < self.tasks = ltb-true _ _ (yes_parts 1 _ _ known).0 in
     let at : resource_of a s t ≡ c.in-Holding.wanted.resource = ap (λ (k : Task). (wanted_of k.state).resource) (task_here self.tasks self.table.rows t lt) ∙ ap (λ (st : State). (wanted_of st).resource) c.in-Holding.is in
     record {

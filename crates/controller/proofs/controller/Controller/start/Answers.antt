@@ -7,14 +7,14 @@ use Rattle.controller.specs.Of.{setup_of, snapshot_of}
 use Rattle.controller.proofs.Beginning.{same_resources, begun}
 use Rattle.controller.proofs.controller.Controller.start.Goals as goal
 
-pub returns-then-fits-all : goal.returns-then-fits-all
-returns-then-fits-all g c =
+pub returns-then-fits_all : goal.returns-then-fits_all
+returns-then-fits_all g c =
     let b = g.B.Bank in
-    let made = c.with-tasks in
+    let made = c.with_tasks in
     let r = made.result in
     let e = made.ensures in
     let p = c.args.plan.now in
-    let fit : fits (plan_contents r.plan) (b.told r.bank) (b.active r.bank) ≡ true = ap (λ (x : Plan). fits (plan_contents x) (b.told r.bank) (b.active r.bank)) e.plan ∙ (ap (λ (x : g.row.B.Denot). fits (plan_contents p) (b.told x) (b.active x)) e.bank ∙ sym c.if-fits-all.ensures) in
+    let fit : fits (plan_contents r.plan) (b.told r.bank) (b.active r.bank) ≡ true = ap (λ (x : Plan). fits (plan_contents x) (b.told r.bank) (b.active r.bank)) e.plan ∙ (ap (λ (x : g.row.B.Denot). fits (plan_contents p) (b.told x) (b.active x)) e.bank ∙ sym c.if-fits_all.ensures) in
     let resources : r.resources ≡ resource_count (plan_contents r.plan) = e.resources ∙ (c.resources.ensures ∙ ap (λ (x : Plan). resource_count (plan_contents x)) (sym e.plan)) in
     let told = same_resources (plan_contents r.plan) (b.told r.bank) (b.active r.bank) fit in
     let least : min r.resources (b.told r.bank).resources ≡ resource_count (plan_contents r.plan) = omega arith in
@@ -25,15 +25,15 @@ returns-then-fits-all g c =
       bank = e.bank;
     }
 
-pub returns-else-fits-all : goal.returns-else-fits-all
-returns-else-fits-all g c =
+pub returns-else-fits_all : goal.returns-else-fits_all
+returns-else-fits_all g c =
     let b = g.B.Bank in
-    let made = c.with-tasks-else-fits-all in
+    let made = c.with_tasks-else-fits_all in
     let r = made.result in
     let e = made.ensures in
     let none = e.resources in
     let p = c.args.plan.now in
-    let misfit : fits (plan_contents r.plan) (b.told r.bank) (b.active r.bank) ≡ false = ap (λ (x : Plan). fits (plan_contents x) (b.told r.bank) (b.active r.bank)) e.plan ∙ (ap (λ (x : g.row.B.Denot). fits (plan_contents p) (b.told x) (b.active x)) e.bank ∙ sym c.if-fits-all.ensures) in
+    let misfit : fits (plan_contents r.plan) (b.told r.bank) (b.active r.bank) ≡ false = ap (λ (x : Plan). fits (plan_contents x) (b.told r.bank) (b.active r.bank)) e.plan ∙ (ap (λ (x : g.row.B.Denot). fits (plan_contents p) (b.told x) (b.active x)) e.bank ∙ sym c.if-fits_all.ensures) in
     let least : min r.resources (b.told r.bank).resources ≡ 0 = omega arith in
     record {
       begins = begun r.plan (setup_of b r) (snapshot_of b r) refl (g.met.B.Bank.small r.bank) (inr (record { misfit = misfit; tasks = e.tasks; resources = least })) e.idle e.clock e.releases;

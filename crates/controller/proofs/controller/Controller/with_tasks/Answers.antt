@@ -9,11 +9,17 @@ use Rattle.controller.proofs.controller.Controller.with_tasks.Goals as goal
 never_blocked : (q : ℕ) → (get_or (replicate 64 idle_task) q idle_task).blocked ≤ 0
 never_blocked q = subst (λ (k : Task). k.blocked ≤ 0) (sym (same_all 64 idle_task q)) (omega arith)
 
-pub invariant-of-result : goal.invariant-of-result
-invariant-of-result g c =
+pub invariant_of-result : goal.invariant_of-result
+invariant_of-result g c =
     let few = (lawful c.args.plan.now.tables).few_tasks in
-    let pre = c.requires in
-    (omega (arith, pre.0), (pre.1, (omega arith, (omega arith, (refl, (never_blocked, tt))))))
+    let pre = c.requires in record {
+      few_tasks = omega (arith, pre.0);
+      few_resources = pre.1;
+      clock_ends = omega arith;
+      releases_end = omega arith;
+      all_records = refl;
+      blocked_ticks = never_blocked;
+    }
 
 pub returns : goal.returns
 returns g c = record { plan = refl; bank = refl; tasks = refl; resources = refl; idle = λ q. idle_all c.args.tasks q; clock = refl; releases = refl }

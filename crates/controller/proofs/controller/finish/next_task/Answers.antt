@@ -13,8 +13,8 @@ silent = record { resources = 0; seats = 0; slots = λ r. 0; reads = λ r. false
 found : (c : goal.In-Some) → IsNext c.args.tasks (tasks_in c.args.tasks c.args.rows.now) (Some c.in-Some.next)
 found c = next_known (setup_with (plan_contents c.args.plan.now) silent c.args.tasks 0) (tasks_in c.args.tasks c.args.rows.now) c.args.task (Some c.in-Some.next) (c.in-Some.ensures silent 0)
 
-pub overflow-cast-result : goal.overflow-cast-result
-overflow-cast-result c = let lt = (found c).0 in search rules
+pub overflow_cast-result : goal.overflow_cast-result
+overflow_cast-result c = let lt = (found c).0 in search rules
 
 pub returns-in-Some : goal.returns-in-Some
 returns-in-Some c = record { next = c.in-Some.ensures; known = found c }
