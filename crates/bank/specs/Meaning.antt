@@ -1,6 +1,6 @@
 -- What a bank means, over the lists of its active requests.
 use Rattle.std.specs.Prelude.{◌≡◌, ℕ, ◌+◌, ◌<◌, ◌≤◌, Bool, true, false, ◌⊎◌, List, [], ◌∷◌, ◌++◌, Some, None, Ok, Err, Result, ◌≢◌}
-use Rattle.std.specs.List.{AllZip, AllByRecursion as All}
+use Rattle.std.specs.List.{AllZip, AllByRecursion}
 use Rattle.text.specs.Questions.{first_no}
 use Rattle.bank.specs.Lists.{count, holders, holds_write, holds_read, without}
 use Rattle.bank.specs.Questions.{number, Told, knows, enter_questions, leave_questions}
@@ -29,7 +29,7 @@ pub record Lawful (t : Told) (r h : ℕ) (a : Request) : Type 0 where
 
 -- what a resource always has: lawful requests, at most k holders in mode W, and no holder in mode R beside one
 pub record Sound (t : Told) (r : ℕ) (xs : List Request) : Type 0 where
-  pub requests : All (Lawful t r (holders xs)) xs
+  pub requests : AllByRecursion (Lawful t r (holders xs)) xs
   pub writers : count holds_write xs ≤ t.slots r
   pub apart : 1 ≤ count holds_write xs → count holds_read xs ≡ 0
 

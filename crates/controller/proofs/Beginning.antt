@@ -1,8 +1,7 @@
 -- How a controller begins, over a bank that fits and over one that does not.
 use Rattle.std.proofs.Common.{◌≡◌, ℕ, zero, suc, ◌<◌, ◌≤◌, Bool, true, false, cond, eqb, ltb, ◌⊎◌, length, get_or, replicate, sym, refl, ap, ◌∙◌, subst, inl, inr, ⊎_elim, arith}
-use lib.ListN.{get_or-replicate, length-replicate}
 use Rattle.std.proofs.ByRecursion.{All-get_or}
-use Rattle.std.proofs.lemmas.Bool.{ltb-true, eqb-true, and_parts, and_left, and_right, cases_eq, cases_lt}
+use Rattle.std.proofs.lemmas.Bool.{ltb-true, eqb-true, and_parts, and_left, and_right, cases_eq}
 use Rattle.bank.specs.Meaning.{Lists, Small}
 use Rattle.bank.specs.Questions.{Told}
 use Rattle.plan.specs.Contents.{Contents, resource_count, processors}

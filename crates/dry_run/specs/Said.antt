@@ -1,5 +1,5 @@
 -- What the program reads of its input, and what it prints.
-use Rattle.std.specs.Prelude.{◌≡◌, ℕ, ◌+◌, Bool, true, false, cond, ◌||◌, List, [], ◌∷◌, ◌++◌, length, take, is_some, Some, None, Ok, Err, codes, decimal, Option, Result, ◌==◌, nat_le, slice_index}
+use Rattle.std.specs.Prelude.{◌≡◌, ℕ, Bool, true, false, cond, ◌||◌, List, [], ◌∷◌, ◌++◌, length, take, is_some, Some, None, Ok, Err, codes, decimal, Option, Result, ◌==◌, nat_le, slice_index}
 use Rattle.std.specs.Option.{unwrap_or, option_map}
 use Rattle.bank.specs.Questions.{Told}
 use Rattle.limits.specs.Lines.{limits_text}

@@ -5,7 +5,7 @@ ghost use Rattle.dry_run.specs.Inputs.{Fed};
 ghost use Rattle.dry_run.specs.Said.{verdict, said, refused_text, LeavesPlan};
 
 use crate::input::Input;
-use crate::limits::write_plan_limits;
+use crate::plan_limits::write_plan_limits;
 use plan::draft::Refused;
 use plan::plan::Plan;
 use text::memory::write_bytes;

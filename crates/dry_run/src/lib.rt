@@ -3,4 +3,4 @@
 
 pub mod answer;
 pub mod input;
-pub mod limits;
+pub mod plan_limits;

@@ -1,7 +1,7 @@
 -- The plan's end, and the lines behind it, byte by byte.
 use Rattle.std.proofs.Common.{◌≡◌, ℕ, suc, ◌+◌, ◌-◌, ◌<◌, ◌≤◌, Bool, true, false, ◌&&◌, eqb, List, [], ◌∷◌, ◌++◌, length, take, Some, None, Err, decimal, Option, sym, refl, ap, ◌∙◌, subst, ⊎_elim, arith}
 use Rattle.std.specs.Option.{option_map}
-use Rattle.std.specs.List.{AllByRecursion as All}
+use Rattle.std.specs.List.{AllByRecursion}
 use Rattle.std.proofs.lemmas.List.{take_all, take_at, take-append-le, length-take-le, length_push}
 use Rattle.std.proofs.lemmas.Bool.{true≢false, cond-true, cond-false, cases_lt}
 use Rattle.bank.specs.declared.request.Mode.TheVariants.{Write, Read}
@@ -68,7 +68,7 @@ part_short input few n = ap part_verdict (ap (before_empty true) (take_all 16384
 -- LINES
 
 abbrev pub Plain : List ℕ → Type 0
-Plain xs = All (λ b. eqb b 10 ≡ false) xs
+Plain xs = AllByRecursion (λ b. eqb b 10 ≡ false) xs
 
 pub plain_push : (xs : List ℕ) (b : ℕ) → Plain xs → eqb b 10 ≡ false → Plain (xs ++ (b ∷ []))
 plain_push [] b p e = (e, tt)

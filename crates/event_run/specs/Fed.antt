@@ -1,6 +1,6 @@
 -- A dry run in the middle of its input.
 use Rattle.std.specs.Prelude.{◌≡◌, ℕ, ◌+◌, ◌*◌, ◌<◌, Bool, true, false, List, [], ◌∷◌, ◌++◌, length, take, Some, None, Ok, Err, Result, ◌==◌, nat_le}
-use Rattle.std.specs.List.{AllByRecursion as All}
+use Rattle.std.specs.List.{AllByRecursion}
 use Rattle.controller.specs.Of.{setup_of, snapshot_of}
 use Rattle.plan.specs.Contents.{Contents}
 use Rattle.plan_text.specs.Texts.{read_text}
@@ -51,7 +51,7 @@ pub record Replaying (d : DryRun) (input out : List ℕ) : Type 0 where
   pub found : (more : List ℕ) → plan_part (text ++ (10 ∷ more)) ≡ Some text
   pub accepted : read_text text ≡ Ok contents
   pub cut : (more : List ℕ) → lines_of (events ++ more) ≡ lines ++ lines_of (line ++ more)
-  pub plain : All (λ b. (b == 10) ≡ false) line
+  pub plain : AllByRecursion (λ b. (b == 10) ≡ false) line
   pub held : kept d ≡ take 16 line
   pub plays : Plays contents (setup d) (snapshot d) lines out
 

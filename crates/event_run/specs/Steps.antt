@@ -25,7 +25,7 @@ line_size None = 1
 line_size (Some e) = length (event_text e)
 
 -- a line was answered, and what is printed of it stands at a place, at most ten bytes for each of the line
-pub record LineTaken (c c' : Controller Banks) (event : Option Event) (old : List ℕ) (at end : ℕ) (new : List ℕ) : Type 0 where
+pub record LineTaken (c c' : Controller Banks meaning) (event : Option Event) (old : List ℕ) (at end : ℕ) (new : List ℕ) : Type 0 where
   pub printed : List ℕ
   pub laid : Laid old at printed end new
   pub few : end ≤ at + 10 * line_size event

@@ -1,6 +1,6 @@
 -- Worked examples, as a list of data, and what it means that one holds.
 use Rattle.std.specs.Prelude.{◌≡◌, ℕ, true, false, List, [], ◌∷◌, ◌++◌, Some, None, Err, codes, Option}
-use Rattle.std.specs.List.{remove, AllByRecursion as All}
+use Rattle.std.specs.List.{remove, AllByRecursion}
 use Rattle.bank.specs.declared.request.Mode.{Mode}
 use Rattle.bank.specs.declared.request.Mode.TheVariants.{Write, Read}
 use Rattle.bank.specs.declared.request.Request.{Request}
@@ -75,4 +75,4 @@ examples =
     ∷ [])))))))))
 
 abbrev pub AllHold : Type 0
-AllHold = All Holds examples
+AllHold = AllByRecursion Holds examples

@@ -1,6 +1,6 @@
 -- The table of lengths and the row of declared lengths.
 use Rattle.std.proofs.Common.{◌≡◌, ℕ, zero, suc, ◌+◌, ◌-◌, ◌*◌, ◌/◌, ◌%◌, ◌<◌, ◌≤◌, true, false, cond, ◌&&◌, eqb, ◌⊎◌, List, [], ◌∷◌, ◌++◌, length, get_or, take, set, Some, None, Option, unwrap_or, sym, refl, ap, ◌∙◌, inl, inr, ⊎_elim, add-zero, zero-add, arith}
-use Rattle.std.specs.List.{AllByRecursion as All}
+use Rattle.std.specs.List.{AllByRecursion}
 use Rattle.std.proofs.ByRecursion.{all-has, has_append_right, has_get_or}
 use Rattle.std.proofs.lemmas.List.{ext_get_or}
 use Rattle.std.proofs.lemmas.Bool.{cases_Bool, cases_eq, cases_lt, eq-eqb, ne_eqb, and_from, and_left, and_right, cond-true, cond-false, cases_order}
@@ -160,12 +160,12 @@ same_end xs m n bm em bn en =
 -- each length stands below all behind it
 abbrev pub Rising : List Declared → Type 0
 Rising [] = Unit {0}
-Rising (d ∷ ds) = All (λ e. below d e.task e.resource ≡ true) ds × Rising ds
+Rising (d ∷ ds) = AllByRecursion (λ e. below d e.task e.resource ≡ true) ds × Rising ds
 
 below_later : (k n j m : ℕ) → k < j → below (placed k n) (placed j m).task (placed j m).resource ≡ true
 below_later k n j m l = grind (arith, nat_tests)
 
-below_rest : (k n j : ℕ) (xs : List ℕ) → k < j → All (λ e. below (placed k n) e.task e.resource ≡ true) (declared j xs)
+below_rest : (k n j : ℕ) (xs : List ℕ) → k < j → AllByRecursion (λ e. below (placed k n) e.task e.resource ≡ true) (declared j xs)
 below_rest k n j [] l = tt
 below_rest k n j (x ∷ xs) l =
     let more = below_rest k n (j + 1) xs (omega arith) in
@@ -182,10 +182,10 @@ above_front [] d behind h = refl
 above_front (b ∷ bs) d behind h = and_from _ _ (all-has _ (bs ++ (d ∷ behind)) d h.0 (has_append_right bs (d ∷ behind) d (has_get_or (d ∷ behind) 0 d (omega arith)))) (above_front bs d behind h.1)
 
 -- what holds of each used place holds of each declared length
-pub declared_all : (P : Declared → Type 0) (k : ℕ) (xs : List ℕ) → ((j : ℕ) → 0 < get_or xs j 0 → P (placed (k + j) (get_or xs j 0))) → All P (declared k xs)
+pub declared_all : (P : Declared → Type 0) (k : ℕ) (xs : List ℕ) → ((j : ℕ) → 0 < get_or xs j 0 → P (placed (k + j) (get_or xs j 0))) → AllByRecursion P (declared k xs)
 declared_all P k [] h = tt
 declared_all P k (x ∷ xs) h =
-    let more : All P (declared (k + 1) xs) = declared_all P (k + 1) xs (λ j g. let e : (k + 1) + j ≡ k + suc j = omega arith in rw e (h (suc j) g)) in
+    let more : AllByRecursion P (declared (k + 1) xs) = declared_all P (k + 1) xs (λ j g. let e : (k + 1) + j ≡ k + suc j = omega arith in rw e (h (suc j) g)) in
     ⊎_elim (λ z. rw (declared_no k x xs z) more) (λ p. rw (declared_yes k x xs p) (let first : P (placed (k + 0) x) = h 0 p in rw add-zero at first, more)) (zero_or_more x)
 
 pub declared_few : (k : ℕ) (xs : List ℕ) → length (declared k xs) ≤ length xs

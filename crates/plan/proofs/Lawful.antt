@@ -1,6 +1,6 @@
 -- What a sealed plan says keeps the limits.
 use Rattle.std.proofs.Common.{◌≡◌, ℕ, ◌+◌, ◌/◌, ◌%◌, ◌<◌, ◌≤◌, true, ltb, List, length, get_or, take, sum, zero-add, arith}
-use Rattle.std.specs.List.{AllByRecursion as All}
+use Rattle.std.specs.List.{AllByRecursion}
 use Rattle.std.proofs.ByRecursion.{All-from_get_or}
 use Rattle.std.proofs.lemmas.List.{get_or-take, length-take-le}
 use Rattle.std.proofs.lemmas.Bool.{and_from, lt-ltb, le-leb}
@@ -15,19 +15,19 @@ use Rattle.plan.proofs.Grid.{Rising, declared_rising, declared_all, declared_few
 use Rattle.plan.proofs.Rows.{processors_few}
 
 pub record Lawful (c : Contents) : Type 0 where
-  pub clusters : All (λ n. within 1 8 n ≡ true) c.clusters
+  pub clusters : AllByRecursion (λ n. within 1 8 n ≡ true) c.clusters
   pub few_clusters : length c.clusters ≤ 8
   pub few_processors : processors c ≤ 64
-  pub slots : All (λ k. within 1 (processors c) k ≡ true) c.slots
+  pub slots : AllByRecursion (λ k. within 1 (processors c) k ≡ true) c.slots
   pub few_resources : resource_count c ≤ 16
-  pub tasks : All (λ g. ltb g (length c.clusters) ≡ true) c.tasks
+  pub tasks : AllByRecursion (λ g. ltb g (length c.clusters) ≡ true) c.tasks
   pub few_tasks : length c.tasks ≤ 64
-  pub lengths : All (λ d. in_limits c (length_item d) ≡ true) c.lengths
+  pub lengths : AllByRecursion (λ d. in_limits c (length_item d) ≡ true) c.lengths
   pub few_lengths : length c.lengths ≤ 1024
   pub rising : Rising c.lengths
 
 -- from each used entry of a table to its row
-row_all : (P : ℕ → Type 0) (low high : ℕ) (xs : List ℕ) (n : ℕ) → n ≤ length xs → Between low high xs n → ((x : ℕ) → low ≤ x → x < high → P x) → All P (take n xs)
+row_all : (P : ℕ → Type 0) (low high : ℕ) (xs : List ℕ) (n : ℕ) → n ≤ length xs → Between low high xs n → ((x : ℕ) → low ≤ x → x < high → P x) → AllByRecursion P (take n xs)
 row_all P low high xs n l b f =
     All-from_get_or P (take n xs) 0
     (λ i h.

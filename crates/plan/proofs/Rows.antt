@@ -1,7 +1,7 @@
 -- Tables with places for a fixed number of entries.
 use Rattle.std.proofs.Common.{◌≡◌, ℕ, zero, suc, ◌+◌, ◌<◌, ◌≤◌, ◌≢◌, List, length, get_or, take, set, replicate, sum, sym, refl, ap, ◌∙◌, ⊎_elim, arith, get_or-set_other, get_or-set_same}
 use Rattle.std.proofs.lemmas.List.{length-set, length-take-le, get_or-take, ext_get_or}
-use Rattle.std.specs.List.{AllByRecursion as All}
+use Rattle.std.specs.List.{AllByRecursion}
 use Rattle.std.proofs.ByRecursion.{All-from_get_or, sum_by_le}
 use Rattle.std.proofs.lemmas.Bool.{cases_eq, cases_lt}
 use Rattle.plan.specs.Limits.{Holds, Between}
@@ -35,5 +35,5 @@ same_rows size xs ys n m h g e =
 pub processors_few : (xs : List ℕ) (n : ℕ) → Holds 8 xs n → Between 1 9 xs n → sum (take n xs) ≤ 64
 processors_few xs n h b =
     let long : length (take n xs) ≡ n = length-take-le n xs (omega arith) in
-    let each : All (λ x. x ≤ 8) (take n xs) = All-from_get_or (λ x. x ≤ 8) (take n xs) 0 (λ i l. let lt : i < n = omega arith in rw (get_or-take n xs i 0 lt) (omega (arith, b i lt))) in
+    let each : AllByRecursion (λ x. x ≤ 8) (take n xs) = All-from_get_or (λ x. x ≤ 8) (take n xs) 0 (λ i l. let lt : i < n = omega arith in rw (get_or-take n xs i 0 lt) (omega (arith, b i lt))) in
     omega (arith, sum_by_le (λ x. x) 8 (take n xs) each)

@@ -1,6 +1,6 @@
 -- A text and a plan are each other's image.
 use Rattle.std.proofs.Common.{◌≡◌, ℕ, zero, suc, ◌+◌, true, false, eqb, ltb, List, [], ◌∷◌, ◌++◌, map, length, replicate, Some, None, Ok, Err, Option, Result, sym, refl, ap, ◌∙◌, ⊎_elim, append_assoc, append-nil, arith}
-use Rattle.std.specs.List.{flat_map, AllByRecursion as All}
+use Rattle.std.specs.List.{flat_map, AllByRecursion}
 use Rattle.std.proofs.ByRecursion.{All-append, All-map, All-weaker}
 use Rattle.std.proofs.lemmas.Bool.{and_parts, leb-true, ltb-true, cases_Bool}
 use Rattle.item.specs.Lines.{item_text, read_item, Writable, IsLineOf}
@@ -76,7 +76,7 @@ pub accepted_text : (text : List ℕ) (c : Contents) → read_text text ≡ Ok c
 accepted_text text c h = sym (lines_extend c (lines_of text) empty 1 h ∙ lines_joined text)
 
 -- the lines of items are read as those items
-items_lines : (is : List Item) → All Writable is → map read_item (lines_of (flat_map item_text is)) ≡ map Some is
+items_lines : (is : List Item) → AllByRecursion Writable is → map read_item (lines_of (flat_map item_text is)) ≡ map Some is
 items_lines [] all = refl
 items_lines (i ∷ is) all =
     ap (map read_item) (item_line i (flat_map item_text is) all.0)
@@ -99,11 +99,11 @@ module _ (c : Contents) (law : Lawful c) where
       let b = and_parts (ltb d.resource (resource_count c)) _ a.1 in
       (omega (arith, ltb-true d.task (length c.tasks) a.0), omega (arith, ltb-true d.resource (resource_count c) b.0), omega (arith, leb-true d.ticks 10000 (and_parts _ _ b.1).1))
 
-  all_replicate : (n : ℕ) → All Writable (replicate n ReaderWriter)
+  all_replicate : (n : ℕ) → AllByRecursion Writable (replicate n ReaderWriter)
   all_replicate zero = tt
   all_replicate (suc n) = (tt, all_replicate n)
 
-  pub all_writable : All Writable (items_of c)
+  pub all_writable : AllByRecursion Writable (items_of c)
   all_writable =
       All-append Writable _ _ (All-map Writable Cluster c.clusters (All-weaker _ _ small_cluster c.clusters law.clusters))
       (All-append Writable _ _ (All-map Writable Slots c.slots (All-weaker _ _ small_slots c.slots law.slots))

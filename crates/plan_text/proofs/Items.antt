@@ -1,6 +1,6 @@
 -- A row of items in order and what they say are each other's image.
 use Rattle.std.proofs.Common.{◌≡◌, ℕ, zero, suc, ◌+◌, ◌<◌, true, ◌&&◌, eqb, ltb, List, [], ◌∷◌, ◌++◌, map, length, replicate, Some, None, Ok, Option, sym, refl, ap, ◌∙◌, subst, append_assoc, append-nil, arith, length-append}
-use Rattle.std.specs.List.{ContainsAt as Has, AllByRecursion as All}
+use Rattle.std.specs.List.{ContainsAt as Has, AllByRecursion}
 use Rattle.std.proofs.ByRecursion.{all-has, has_append_right, has_get_or}
 use Rattle.std.proofs.lemmas.List.{map-append, map_push, length_push, length-replicate, nil_from_length, replicate_more}
 use Rattle.std.proofs.lemmas.Bool.{and_parts, eqb-true, lt-ltb}
@@ -89,7 +89,7 @@ module _ {A : Type 0} (item : A → Item) (state : List A → Contents) (push : 
       ∙ (ap (λ zs. judge (state zs) ((n + 1) + length ys) rest) same ∙ ap (λ k. judge (state (xs ++ (y ∷ ys))) k rest) e)))
 
 -- an entry of a row, and how many stand before it
-one_of : {A : Type 0} (P : A → Type 0) (before : List A) (y : A) (behind xs : List A) → before ++ (y ∷ behind) ≡ xs → All P xs → P y
+one_of : {A : Type 0} (P : A → Type 0) (before : List A) (y : A) (behind xs : List A) → before ++ (y ∷ behind) ≡ xs → AllByRecursion P xs → P y
 one_of P before y behind xs e all = all-has P xs y all (subst (λ zs. Has zs y) e (has_append_right before (y ∷ behind) y (has_get_or (y ∷ behind) 0 y (omega arith))))
 
 fewer : {A : Type 0} (before : List A) (y : A) (behind xs : List A) → before ++ (y ∷ behind) ≡ xs → length before < length xs

@@ -1,6 +1,6 @@
 -- Lines laid one after another.
 use Rattle.std.proofs.Common.{◌≡◌, ℕ, zero, suc, ◌+◌, ◌-◌, ◌*◌, ◌/◌, ◌%◌, ◌^◌, ◌<◌, ◌≤◌, true, false, cond, eqb, List, [], ◌∷◌, ◌++◌, map, length, get_or, take, replicate, Some, None, sym, refl, ap, ◌∙◌, ⊎_elim, append_assoc, append-nil, zero-add, arith, length-append}
-use Rattle.std.specs.List.{AllByRecursion as All}
+use Rattle.std.specs.List.{AllByRecursion}
 use Rattle.std.proofs.lemmas.List.{take_more, take_all, map-append, length-map, length-replicate, get_or-map, get_or_append_left, get_or-append_right, get_or-replicate}
 use Rattle.std.proofs.lemmas.Bool.{cond-true, cond-false, lt-ltb, le-ltb, cases_lt}
 use Rattle.item.specs.Lines.{item_text, Writable}
@@ -113,7 +113,7 @@ module _ (xs : List ℕ) (k : ℕ) (l : k < length xs) (old : List ℕ) (at midd
   lays_place end new g = rw (place_more xs k l) (lays_more old at (places_text xs k) middle mid placed_text end new f g)
 
 -- a plan's text is short
-row_short : (is : List Item) → All Writable is → length (row_text is) ≤ 20 * length is
+row_short : (is : List Item) → AllByRecursion Writable is → length (row_text is) ≤ 20 * length is
 row_short [] all = omega arith
 row_short (i ∷ is) all = omega (arith, length-append (item_text i) (row_text is), size_text i all.0, row_short is all.1)
 

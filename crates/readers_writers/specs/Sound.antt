@@ -1,7 +1,7 @@
 -- The requests of good entries are sound.
 use Rattle.std.specs.Prelude.{◌≡◌, ℕ, ◌+◌, ◌<◌, ◌≤◌, Bool, true, false, cond, not, ◌&&◌, ◌⊎◌, List, [], ◌∷◌, length, nat_lt, refl}
 use Rattle.std.proofs.Common.{sym, ap, subst, ◌∙◌, inl, inr, ⊎_elim, arith}
-use Rattle.std.specs.List.{AllByRecursion as All}
+use Rattle.std.specs.List.{AllByRecursion}
 use Rattle.std.proofs.lemmas.Bool.{true≢false, false≢true, ltb-true, and_parts, or_parts, or_left, not-true, cond-true, cond-false, cases_Bool}
 use Rattle.std.proofs.lemmas.Bool.Decides.{nat_tests}
 use Rattle.bank.specs.Lists.{count, any, holds, holds_write, holds_read, holds_by, is_write}
@@ -61,7 +61,7 @@ lawful_one c m r t h n p false Write false lt some up w = let o = (w refl).0 in 
 lawful_one c m r t h n p true Read false lt some up w = let o = (w refl).0 in let q : n ≡ 0 → ⊥ = λ z. true≢false ((w refl).1 z).1 in record { party = lt; known = refl; holding = λ z. absurd (false≢true z); waiting = λ _. (omega arith, omega arith, some, up) }
 lawful_one c m r t h n p false Read false lt some up w = let o = (w refl).0 in let q : n ≡ 0 → ⊥ = λ z. false≢true ((w refl).1 z).0 in record { party = lt; known = refl; holding = λ z. absurd (false≢true z); waiting = λ _. (omega arith, omega arith, some, up) }
 
-lawful_from : (c m r t : ℕ) (b : Bool) (h n : ℕ) (es : List Entry) → 1 ≤ h → h ≤ t → named es ≡ true → some holding_writer es ≡ false → (n + count_of waits es) + cond b 0 1 ≤ m → (n ≡ 0 → (ordered es ≡ true) × (b ≡ false)) → All (Lawful (told c m) r t) (requests_from b h n es)
+lawful_from : (c m r t : ℕ) (b : Bool) (h n : ℕ) (es : List Entry) → 1 ≤ h → h ≤ t → named es ≡ true → some holding_writer es ≡ false → (n + count_of waits es) + cond b 0 1 ≤ m → (n ≡ 0 → (ordered es ≡ true) × (b ≡ false)) → AllByRecursion (Lawful (told c m) r t) (requests_from b h n es)
 lawful_from c m r t b h n [] one up low none few first = tt
 lawful_from c m r t b h n (e ∷ es) one up low none few first =
     let l = and_parts (nat_lt e.party 64) (named es) low in
@@ -93,7 +93,7 @@ reading es z = ap (λ x. requests_from x (count_of is_holder es) 0 es) z
 no_writer_holds : (es : List Entry) → some is_holder es ≡ false → some holding_writer es ≡ false
 no_writer_holds es z = some_fewer is_holder holding_writer (λ e f. grind (arith, nat_tests)) es z
 
-lawful_requests : (c m r : ℕ) (es : List Entry) → good es ≡ true → named es ≡ true → length es ≤ m → All (Lawful (told c m) r (count_of is_holder es)) (requests es)
+lawful_requests : (c m r : ℕ) (es : List Entry) → good es ≡ true → named es ≡ true → length es ≤ m → AllByRecursion (Lawful (told c m) r (count_of is_holder es)) (requests es)
 lawful_requests c m r [] g low l = tt
 lawful_requests c m r (e ∷ es) g low l =
     let n = and_parts (nat_lt e.party 64) (named es) low in
@@ -104,13 +104,13 @@ lawful_requests c m r (e ∷ es) g low l =
     let none = some_count is_holder es w.1 in
     let all = waits_or_holds es in
     let one : count_of is_holder (e ∷ es) ≡ 1 = omega (arith, cond-true {A = ℕ} e.holds 1 0 p.0) in
-    subst (All (Lawful (told c m) r (count_of is_holder (e ∷ es)))) (sym (writing e es w.0 w.1)) (
+    subst (AllByRecursion (Lawful (told c m) r (count_of is_holder (e ∷ es)))) (sym (writing e es w.0 w.1)) (
       lawful_one c m r (count_of is_holder (e ∷ es)) 1 0 e.party true e.mode e.holds (ltb-true _ _ n.0) (omega arith) (omega arith) (λ z. absurd (true≢false (sym p.0 ∙ z))),
       lawful_from c m r (count_of is_holder (e ∷ es)) true 1 1 es (omega arith) (omega arith) n.1 (no_writer_holds es w.1) (omega arith) (λ z. absurd (omega arith)),
     ))
     (λ w.
     let some = some_least is_holder (e ∷ es) w.0 in
-    subst (All (Lawful (told c m) r (count_of is_holder (e ∷ es)))) (sym (reading (e ∷ es) w.1)) (lawful_from c m r (count_of is_holder (e ∷ es)) false (count_of is_holder (e ∷ es)) 0 (e ∷ es) some (omega arith) low w.1 (omega arith) (λ z. (w.2, refl))))
+    subst (AllByRecursion (Lawful (told c m) r (count_of is_holder (e ∷ es)))) (sym (reading (e ∷ es) w.1)) (lawful_from c m r (count_of is_holder (e ∷ es)) false (count_of is_holder (e ∷ es)) 0 (e ∷ es) some (omega arith) low w.1 (omega arith) (λ z. (w.2, refl))))
     (ways e es g)
 
 -- at most one writer holds, and then no read
@@ -135,7 +135,7 @@ sound c m r es g low l =
     let reads = count_requests holds_read holding_read reads_same b h 0 es in
     let one = alone es g in
     record {
-      requests = subst (λ t. All (Lawful (told c m) r t) (requests es)) (sym all) (lawful_requests c m r es g low l);
+      requests = subst (λ t. AllByRecursion (Lawful (told c m) r t) (requests es)) (sym all) (lawful_requests c m r es g low l);
       writers = omega arith;
       apart = λ z. reads ∙ one.1 (omega arith);
     }

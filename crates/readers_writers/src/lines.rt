@@ -16,6 +16,6 @@ pub struct ReadersWriters {
     ghost kept: { AllKeep lines count seats },
 }
 
-pub mod bank;
+pub mod calls;
 mod change;
 pub mod make;

@@ -1,7 +1,7 @@
 -- The entries of a task in a resource's list, when a request enters and when a holder leaves.
-use Rattle.std.proofs.Common.{◌≡◌, ℕ, ◌+◌, ◌≤◌, Bool, true, false, cond, not, ◌&&◌, ◌||◌, eqb, List, [], ◌∷◌, ◌++◌, Some, None, Option, sym, refl, ap, ◌∙◌, arith}
+use Rattle.std.proofs.Common.{◌≡◌, ℕ, ◌+◌, ◌≤◌, Bool, true, false, cond, ◌&&◌, ◌||◌, eqb, List, [], ◌∷◌, ◌++◌, Some, None, Option, sym, refl, ap, ◌∙◌, arith}
 use Rattle.std.proofs.lemmas.Bool.{and_parts, or_left, eqb-true, eq-eqb, ne_eqb, false≢true}
-use Rattle.std.specs.List.{AllZip, AllByRecursion as All}
+use Rattle.std.specs.List.{AllZip, AllByRecursion}
 use Rattle.bank.specs.Lists.{count, request_of, is_active, is_holder, holds_by, without}
 use Rattle.bank.specs.Meaning.{Stays}
 use Rattle.bank.specs.declared.request.Request.{Request}
@@ -54,7 +54,7 @@ request_party q (y ∷ xs) x e = go (request_party q xs x) (eqb y.party q) refl 
     go ih false f e = let k = ih e in (k.0, omega (arith, k.1))
 
 -- where each task is listed once at most, what holds of each task's entry holds of the whole list
-pub all_entries : (P : Request → Type 0) (xs : List Request) → ((q : ℕ) → listed q xs ≤ 1) → ((q : ℕ) (x : Request) → request_of q xs ≡ Some x → P x) → All P xs
+pub all_entries : (P : Request → Type 0) (xs : List Request) → ((q : ℕ) → listed q xs ≤ 1) → ((q : ℕ) (x : Request) → request_of q xs ≡ Some x → P x) → AllByRecursion P xs
 all_entries P [] once h = tt
 all_entries P (y ∷ xs) once h = (
   h y.party y (rw (eq-eqb y.party y.party refl)),

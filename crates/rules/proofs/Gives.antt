@@ -1,7 +1,7 @@
 -- What every run keeps is kept when a holder gives back.
 use Rattle.std.proofs.Common.{◌≡◌, ℕ, zero, suc, ◌<◌, ◌≤◌, max, Bool, true, false, cond, not, ◌&&◌, eqb, ◌⊎◌, length, is_some, Some, None, Option, unwrap_or, sym, refl, ap, ◌∙◌, subst, inl, inr, ⊎_elim, arith}
 use Rattle.std.proofs.lemmas.Bool.{eqb-true, eqb-false, eq-eqb, ne_eqb, and_parts, false≢true, both_ways, cases_eq, cases_Bool, cond-true, cond-false}
-use Rattle.std.specs.List.{AllZip, AllByRecursion as All}
+use Rattle.std.specs.List.{AllZip, AllByRecursion}
 use Rattle.bank.specs.Lists.{request_of, is_holder, without}
 use Rattle.bank.specs.Meaning.{Lists, Sound, Stays}
 use Rattle.bank.specs.declared.request.Request.{Request}
@@ -67,7 +67,7 @@ module _ (a : Setup) (known : a.tasks ≤ length a.plan.tasks) (e : ℕ → Bool
       go false = omega arith
 
   -- what holds of each listed task's entry holds of the whole list
-  pub entries : (r : ℕ) → r < a.resources → (P : Request → Type 0) → ((q : ℕ) (x : Request) → x.party ≡ q → request_of q (ls r) ≡ Some x → At (ks q) r → P x) → All P (ls r)
+  pub entries : (r : ℕ) → r < a.resources → (P : Request → Type 0) → ((q : ℕ) (x : Request) → x.party ≡ q → request_of q (ls r) ≡ Some x → At (ks q) r → P x) → AllByRecursion P (ls r)
   entries r lr P h = all_entries P (ls r) (listed_once_lem r lr) (λ q x f. let g = request_party q (ls r) x f in h q x g.0 f (listed_at a n ls q (ks q) (i.tasks q) r lr g.1))
 
   -- the task of a request exists

@@ -1,15 +1,15 @@
 -- The law over every run: what is kept after each call gives the promises.
-use Rattle.std.proofs.Common.{◌≡◌, ℕ, ◌<◌, ◌≤◌, Bool, true, false, eqb, ◌⊎◌, List, [], ◌∷◌, length, is_some, Some, None, Ok, Err, Option, unwrap_or, sym, refl, ap, ◌∙◌, subst, ⊎_elim, arith}
+use Rattle.std.proofs.Common.{◌≡◌, ℕ, ◌<◌, ◌≤◌, Bool, true, false, eqb, List, [], ◌∷◌, length, is_some, Some, None, Ok, Err, Option, unwrap_or, sym, refl, ap, ◌∙◌, subst, ⊎_elim, arith}
 use mathlib.Core.Path.{fun_ext}
 use Rattle.std.proofs.lemmas.Bool.{and_parts, eqb-true, false≢true, both_ways}
-use Rattle.std.specs.List.{AllByRecursion as All}
+use Rattle.std.specs.List.{AllByRecursion}
 use Rattle.bank.specs.Lists.{request_of}
 use Rattle.bank.specs.Meaning.{Lists}
 use Rattle.bank.specs.declared.request.Request.{Request}
 use Rattle.plan.specs.Contents.{length_at, processors, resource_count}
 use Rattle.rules.specs.Answers.{Event, made, released, asked, gave, finished, ticked, Answered}
-use Rattle.rules.specs.Histories.{History, lists, releases, clock, job, wanted, issued, used, holding, state_of, jobs_after, after}
-use Rattle.rules.specs.Jobs.{Setup, Snapshot, first, runs}
+use Rattle.rules.specs.Histories.{History, lists, releases, job, wanted, issued, used, holding, state_of, jobs_after, after}
+use Rattle.rules.specs.Jobs.{Setup, Snapshot, runs}
 use Rattle.rules.specs.Moves.{Does}
 use Rattle.rules.specs.Promises.{Kept, InMode, AtMost, WithinLength, AnsweredAfter, Lawful}
 use Rattle.rules.specs.Questions.{fits_at, all_below, equal_bool, slots_in, reads_in}
@@ -76,7 +76,7 @@ module _ (a : Setup) (set : Setting a) (h : History) (i : InvOf a h) where
           at None x y = absurd (false≢true x)
           at (Some l) x y = y
 
-  modes_kept : (r : ℕ) → r < a.resources → All (λ x. InMode x.mode (wanted x.party h)) (lists h r)
+  modes_kept : (r : ℕ) → r < a.resources → AllByRecursion (λ x. InMode x.mode (wanted x.party h)) (lists h r)
   modes_kept r lr = entries a set.known nobody (words_of a h) (lists h) (releases h) i r lr (λ x. InMode x.mode (wanted x.party h)) (λ q x p f at.
       let m : at.wanted.mode ≡ x.mode = sym ((i.tasks q).mode at.wanted at.is x (ap (λ (z : ℕ). request_of q (lists h z)) at.there ∙ f)) in
       rw (p, at.is) m)

@@ -1,11 +1,11 @@
 -- From the words of a history to the words after one call more: release and ask.
 use Rattle.std.proofs.Common.{◌≡◌, ℕ, ◌<◌, ◌≤◌, Bool, true, false, cond, not, eqb, ◌∷◌, length, is_some, Some, None, Ok, Option, unwrap_or, sym, refl, ◌∙◌}
 use Rattle.std.proofs.lemmas.Bool.{eq-eqb, false≢true}
-use Rattle.text.specs.Questions.{ask, first_no}
+use Rattle.text.specs.Questions.{first_no}
 use Rattle.bank.specs.Meaning.{Lists, Sound}
 use Rattle.plan.specs.Contents.{processors}
 use Rattle.rules.specs.Answers.{Event, released, Answered}
-use Rattle.rules.specs.Histories.{History, lists, releases, job, wanted, issued, used, waited, state, state_of, jobs_after, after, ends}
+use Rattle.rules.specs.Histories.{History, lists, releases, job, wanted, issued, used, waited, state_of, jobs_after, after, ends}
 use Rattle.rules.specs.Jobs.{Setup, first, cluster_of}
 use Rattle.rules.specs.Moves.{moved_task}
 use Rattle.rules.specs.Questions.{work_questions}

@@ -5,8 +5,8 @@ use Rattle.bank.specs.Lists.{request_of}
 use Rattle.bank.specs.Meaning.{Lists}
 use Rattle.bank.specs.declared.request.Request.{Request}
 use Rattle.rules.specs.Answers.{gave, ticked, Answered}
-use Rattle.rules.specs.Histories.{History, lists, releases, job, wanted, issued, used, waited, state_of, entry_of, after}
-use Rattle.rules.specs.Jobs.{Setup, blocked}
+use Rattle.rules.specs.Histories.{History, lists, releases, job, wanted, issued, used, state_of, entry_of, after}
+use Rattle.rules.specs.Jobs.{Setup}
 use Rattle.rules.specs.Moves.{is_held, let_in, let_in_state, ticked_task, one_more_if}
 use Rattle.rules.specs.Questions.{late_task, late, late_in, length_for}
 use Rattle.rules.specs.States.{is_holding, in_state, wanted_of}

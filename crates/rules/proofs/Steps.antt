@@ -1,8 +1,8 @@
 -- What every run keeps is kept when a job begins, when it asks, when a request is issued and when a job ends.
-use Rattle.std.proofs.Common.{◌≡◌, ℕ, ◌+◌, ◌<◌, ◌≤◌, Bool, true, false, cond, not, ◌&&◌, eqb, ◌⊎◌, List, [], ◌∷◌, ◌++◌, is_some as option_is_some, Some, None, Option, unwrap_or, sym, refl, ap, ◌∙◌, subst, inl, inr, ⊎_elim, arith}
+use Rattle.std.proofs.Common.{◌≡◌, ℕ, ◌+◌, ◌<◌, ◌≤◌, Bool, true, false, cond, ◌&&◌, eqb, ◌⊎◌, List, [], ◌∷◌, ◌++◌, is_some as option_is_some, Some, None, Option, unwrap_or, sym, refl, ap, ◌∙◌, subst, inl, inr, ⊎_elim, arith}
 use Rattle.std.proofs.lemmas.Bool.{eqb-true, eq-eqb, ne_eqb, false≢true, cases_eq, cond-true, cond-false}
-use Rattle.std.specs.List.{AllByRecursion as All}
-use Rattle.bank.specs.Lists.{request_of, without}
+use Rattle.std.specs.List.{AllByRecursion}
+use Rattle.bank.specs.Lists.{request_of}
 use Rattle.bank.specs.Meaning.{Lists, Sound, Added}
 use Rattle.bank.specs.declared.request.Request.{Request}
 use Rattle.plan.specs.Contents.{longest_at}
@@ -24,7 +24,7 @@ pub none_some : {A : Type 0} {o : Option A} → o ≡ None → option_is_some o 
 none_some p q = false≢true (rw p at (ap (λ (b : Bool). b) q))
 
 -- what holds of every listed task holds of each entry's
-pub all_listed : (P : ℕ → Type 0) (xs : List Request) → ((q : ℕ) → 1 ≤ listed q xs → P q) → All (λ x. P x.party) xs
+pub all_listed : (P : ℕ → Type 0) (xs : List Request) → ((q : ℕ) → 1 ≤ listed q xs → P q) → AllByRecursion (λ x. P x.party) xs
 all_listed P [] h = tt
 all_listed P (y ∷ xs) h = (h y.party (rw (eq-eqb y.party y.party refl) (omega arith)), all_listed P xs (λ q l. h q (omega (arith, l))))
 

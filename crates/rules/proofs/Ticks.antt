@@ -1,7 +1,7 @@
 -- What every run keeps is kept on a tick, and a job is blocked exactly where its request waits.
 use Rattle.std.proofs.Common.{◌≡◌, ℕ, ◌+◌, ◌*◌, ◌<◌, ◌≤◌, Bool, true, false, cond, not, ◌&&◌, eqb, List, [], ◌∷◌, length, is_some, Some, None, Option, sym, refl, ap, ◌∙◌, subst, arith}
 use Rattle.std.proofs.lemmas.Bool.{eq-eqb, false≢true, both_ways, cond-true, not-true}
-use Rattle.std.specs.List.{AllByRecursion as All}
+use Rattle.std.specs.List.{AllByRecursion}
 use Rattle.bank.specs.Lists.{request_of}
 use Rattle.bank.specs.Meaning.{Lists}
 use Rattle.bank.specs.declared.request.Request.{Request}
@@ -21,7 +21,7 @@ use Rattle.rules.proofs.Waiting.{OwedAll, Within, owed_tick, owed_bound}
 use Rattle.rules.proofs.Words.{TaskWords, held_in, waits_in, jobs_of, TaskKept, Inv, nobody, unfinished_job, first_jobs}
 
 -- the entry of a task is one of the list
-all_at : (P : Request → Type 0) (q : ℕ) (xs : List Request) (x : Request) → All P xs → request_of q xs ≡ Some x → P x
+all_at : (P : Request → Type 0) (q : ℕ) (xs : List Request) (x : Request) → AllByRecursion P xs → request_of q xs ≡ Some x → P x
 all_at P q [] x h e = absurd (some_none refl e)
 all_at P q (y ∷ xs) x h e = go (all_at P q xs x h.1) (eqb y.party q) e
   where

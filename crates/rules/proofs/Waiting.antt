@@ -1,6 +1,6 @@
 -- How long a request waits, over one resource's list. Assumes nothing.
 use Rattle.std.proofs.Common.{◌≡◌, ℕ, ◌+◌, ◌-◌, ◌*◌, ◌<◌, ◌≤◌, Bool, true, false, cond, ◌&&◌, leb, List, [], ◌∷◌, ◌++◌, refl, ⊎_elim, mul-le-mul_right, add-mul, one-mul, arith}
-use Rattle.std.specs.List.{AllZip, AllByRecursion as All}
+use Rattle.std.specs.List.{AllZip, AllByRecursion}
 use Rattle.std.proofs.ByRecursion.{All-weaker, All-push}
 use Rattle.std.proofs.lemmas.Bool.{and_parts, and_from, leb-true, le-leb, both_ways, false≢true}
 use Rattle.bank.specs.Lists.{count, holders, holds_by, without}
@@ -20,7 +20,7 @@ bit_le true = omega arith
 bit_le false = omega arith
 
 -- what passes p passes q
-pub count_every : (p q : Request → Bool) (xs : List Request) → All (λ x. p x ≡ true → q x ≡ true) xs → count p xs ≤ count q xs
+pub count_every : (p q : Request → Bool) (xs : List Request) → AllByRecursion (λ x. p x ≡ true → q x ≡ true) xs → count p xs ≤ count q xs
 count_every p q [] h = omega arith
 count_every p q (x ∷ xs) h = step_le (p x) (q x) (count p xs) (count q xs) h.0 (count_every p q xs h.1)
 
@@ -39,19 +39,19 @@ count_stays p q (x ∷ xs) [] h s = absurd s
 count_stays p q (x ∷ xs) (y ∷ ys) h s = step_le (p x) (q y) (count p xs) (count q ys) (h x y s.0) (count_stays p q xs ys h s.1)
 
 module _ {X : Type 0} where
-  pub all_both : (P Q : X → Type 0) (xs : List X) → All P xs → All Q xs → All (λ x. P x × Q x) xs
+  pub all_both : (P Q : X → Type 0) (xs : List X) → AllByRecursion P xs → AllByRecursion Q xs → AllByRecursion (λ x. P x × Q x) xs
   all_both P Q [] h k = tt
   all_both P Q (x ∷ xs) h k = ((h.0, k.0), all_both P Q xs h.1 k.1)
 
-  pub all_last : (P : X → Type 0) (xs : List X) (new : X) → All P (xs ++ (new ∷ [])) → P new
+  pub all_last : (P : X → Type 0) (xs : List X) (new : X) → AllByRecursion P (xs ++ (new ∷ [])) → P new
   all_last P [] new h = h.0
   all_last P (x ∷ xs) new h = all_last P xs new h.1
 
-pub all_without : (P : Request → Type 0) (p : ℕ) (xs : List Request) → All P xs → All P (without p xs)
+pub all_without : (P : Request → Type 0) (p : ℕ) (xs : List Request) → AllByRecursion P xs → AllByRecursion P (without p xs)
 all_without P p [] h = tt
 all_without P p (x ∷ xs) h =
     let ih = all_without P p xs h.1 in
-    elim (holds_by p x) as (λ b. All P (cond b xs (x ∷ without p xs))) [ true ↦ h.1 | false ↦ (h.0, ih) ]
+    elim (holds_by p x) as (λ b. AllByRecursion P (cond b xs (x ∷ without p xs))) [ true ↦ h.1 | false ↦ (h.0, ih) ]
 
 -- the holders that have held, with c ticks more, at least w ticks
 abbrev pub long : (ℕ → ℕ) → ℕ → ℕ → Request → Bool
@@ -62,7 +62,7 @@ good u c w xs = count (long u c w) xs
 
 -- no holder has held longer than l ticks
 abbrev pub Within : ℕ → (ℕ → ℕ) → List Request → Type 0
-Within l u xs = All (λ x. x.holds ≡ true → u x.party ≤ l) xs
+Within l u xs = AllByRecursion (λ x. x.holds ≡ true → u x.party ≤ l) xs
 
 -- where there is one, w is at most a whole length more than c
 good_some : (u : ℕ → ℕ) (c w l : ℕ) (xs : List Request) → Within l u xs → 1 ≤ good u c w xs → w ≤ l + c
@@ -101,10 +101,10 @@ module _ (t : Told) (r l : ℕ) where
   Owed xs u w x = x.holds ≡ false → x.departures ≤ good u ((t.limit r x.mode - x.turns) * l) (w x.party) xs
 
   abbrev pub OwedAll : (ℕ → ℕ) → (ℕ → ℕ) → List Request → Type 0
-  OwedAll u w xs = All (Owed xs u w) xs
+  OwedAll u w xs = AllByRecursion (Owed xs u w) xs
 
   -- a tick: every holder has held one tick more
-  pub owed_tick : (xs : List Request) (u w u' w' : ℕ → ℕ) → All (λ x. x.holds ≡ true → u' x.party ≡ u x.party + 1) xs → All (λ x. w' x.party ≤ w x.party + 1) xs
+  pub owed_tick : (xs : List Request) (u w u' w' : ℕ → ℕ) → AllByRecursion (λ x. x.holds ≡ true → u' x.party ≡ u x.party + 1) xs → AllByRecursion (λ x. w' x.party ≤ w x.party + 1) xs
       → OwedAll u w xs → OwedAll u' w' xs
   owed_tick xs u w u' w' used waited o =
       All-weaker (λ x. Owed xs u w x × (w' x.party ≤ w x.party + 1)) (Owed xs u' w')
@@ -121,7 +121,7 @@ module _ (t : Told) (r l : ℕ) where
           xs used)
 
   -- the ticks of no party in the list change
-  pub owed_same : (xs : List Request) (u w u' w' : ℕ → ℕ) → All (λ x. (u' x.party ≡ u x.party) × (w' x.party ≡ w x.party)) xs → OwedAll u w xs → OwedAll u' w' xs
+  pub owed_same : (xs : List Request) (u w u' w' : ℕ → ℕ) → AllByRecursion (λ x. (u' x.party ≡ u x.party) × (w' x.party ≡ w x.party)) xs → OwedAll u w xs → OwedAll u' w' xs
   owed_same xs u w u' w' same o =
       All-weaker (λ x. Owed xs u w x × ((u' x.party ≡ u x.party) × (w' x.party ≡ w x.party))) (Owed xs u' w')
       (λ x h e. rw h.1.1 (omega (arith, h.0 e, more (spent x) (w x.party)))) xs
@@ -160,7 +160,7 @@ module _ (t : Told) (r l : ℕ) where
         omega (arith, ty.3, good_all u ((t.limit r x.mode - y.turns) * l) (w x.party) ys c)))
         (s.waiting wx))
 
-    leave_list : (cs bs : List Request) → AllZip Stays cs bs → All (Lawful t r (holders xs)) cs → All (Lawful t r (holders ys)) bs → All (Owed xs u w) cs → All (Owed ys u w) bs
+    leave_list : (cs bs : List Request) → AllZip Stays cs bs → AllByRecursion (Lawful t r (holders xs)) cs → AllByRecursion (Lawful t r (holders ys)) bs → AllByRecursion (Owed xs u w) cs → AllByRecursion (Owed ys u w) bs
     leave_list [] [] s lc lb o = tt
     leave_list [] (b ∷ bs) s lc lb o = absurd s
     leave_list (c ∷ cs) [] s lc lb o = absurd s
@@ -182,7 +182,7 @@ module _ (t : Told) (r l : ℕ) where
       (without p xs) ys s (all_without (Lawful t r (holders xs)) p xs sx.requests) sy.requests (all_without (Owed xs u w) p xs o)
 
   -- what is owed keeps the wait within the limit
-  pub owed_bound : (xs : List Request) (u w : ℕ → ℕ) → Within l u xs → Sound t r xs → OwedAll u w xs → All (λ x. x.holds ≡ false → w x.party ≤ t.limit r x.mode * l) xs
+  pub owed_bound : (xs : List Request) (u w : ℕ → ℕ) → Within l u xs → Sound t r xs → OwedAll u w xs → AllByRecursion (λ x. x.holds ≡ false → w x.party ≤ t.limit r x.mode * l) xs
   owed_bound xs u w most s o =
       All-weaker (λ x. Lawful t r (holders xs) x × Owed xs u w x) (λ x. x.holds ≡ false → w x.party ≤ t.limit r x.mode * l)
       (λ x h e.

@@ -1,6 +1,6 @@
 -- What holds after every call of every run, over any bank, by the words of a history alone.
 use Rattle.std.specs.Prelude.{◌≡◌, ℕ, ◌*◌, ◌<◌, ◌≤◌, Bool, true, false, cond, not, ◌&&◌, [], ◌∷◌, Some, None, Ok, Err, Option, Result, ◌==◌, nat_eq}
-use Rattle.std.specs.List.{AllByRecursion as All}
+use Rattle.std.specs.List.{AllByRecursion}
 use Rattle.bank.specs.Lists.{count, holds_write, holds_read}
 use Rattle.bank.specs.Meaning.{Lists}
 use Rattle.bank.specs.declared.request.Mode.{Mode}
@@ -43,7 +43,7 @@ pub record Kept (a : Setup) (h : History) : Type 0 where
   -- it, once, at its resource and in its mode, and nothing else.
   pub holds_or_waits : (t : ℕ) → issued t h ≡ true → holding t h ≡ not (waiting t h)
   pub listed_once : (t r : ℕ) → r < a.resources → count (λ x. nat_eq x.party t) (lists h r) ≡ cond (issued t h && is_at r (wanted t h)) 1 0
-  pub modes : (r : ℕ) → r < a.resources → All (λ x. InMode x.mode (wanted x.party h)) (lists h r)
+  pub modes : (r : ℕ) → r < a.resources → AllByRecursion (λ x. InMode x.mode (wanted x.party h)) (lists h r)
   -- Holders run and keep their lengths, and are within what the resource admits.
   pub holders_run : (t : ℕ) → holding t h ≡ true → runs a (jobs_after h) t ≡ true
   pub within_length : (t : ℕ) → holding t h ≡ true → WithinLength a t (used t h) (wanted t h)

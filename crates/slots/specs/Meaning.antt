@@ -1,7 +1,7 @@
 -- What the calls of a bank of slot resources mean.
 use Rattle.std.specs.Prelude.{◌≡◌, ℕ, ◌+◌, ◌<◌, Bool, true, length, None, Ok, Err, Result, nat_lt, slice_index_or, refl}
 use Rattle.std.proofs.Common.{sym, ap, subst, ◌∙◌, arith}
-use Rattle.std.specs.List.{AllZip, remove, AllByRecursion as All}
+use Rattle.std.specs.List.{AllZip, remove, AllByRecursion}
 use Rattle.std.proofs.ByRecursion.{All-from_get_or}
 use Rattle.std.proofs.lemmas.List.{length-take, get_or-take}
 use Rattle.std.proofs.lemmas.Bool.{and_parts, ltb-true}
@@ -28,7 +28,7 @@ is_sound s r l =
     let row = slice_index_or s.lines r bare in
     let n = length-take row.size row.parties in
     let few = s.few r (omega arith) in
-    let small : All (λ p. p < 64) (parties_of s r) = All-from_get_or (λ p. p < 64) (parties_of s r) 0 (λ i h. let lt : i < row.size = omega arith in rw (get_or-take row.size row.parties i 0 lt) (s.below r i (omega arith) lt)) in
+    let small : AllByRecursion (λ p. p < 64) (parties_of s r) = All-from_get_or (λ p. p < 64) (parties_of s r) 0 (λ i h. let lt : i < row.size = omega arith in rw (get_or-take row.size row.parties i 0 lt) (s.below r i (omega arith) lt)) in
     requests_sound (told_of s) r s.seats (holders_of s r) (parties_of s r) refl refl (s.sized.2 r l) small (omega arith)
 
 -- only the mode W is known

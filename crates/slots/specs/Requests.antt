@@ -3,7 +3,7 @@ use Rattle.std.specs.Prelude.{◌≡◌, ℕ, zero, suc, ◌+◌, ◌-◌, ◌*�
 use Rattle.std.proofs.Common.{sym, ap, subst, ◌∙◌, ⊎_elim, inl, inr, arith, add-mul, add-zero, div-add-mod', div-mul-le_self, le-div_iff_mul-le, mod-lt}
 use Rattle.std.proofs.Math.Nat.{add-div_right}
 use Rattle.std.proofs.Math.Arith.{digits_div, digits_mod}
-use Rattle.std.specs.List.{AllZip, remove, AllByRecursion as All, slice_get}
+use Rattle.std.specs.List.{AllZip, remove, AllByRecursion, slice_get}
 use Rattle.std.proofs.lemmas.Bool.{cases_lt, cases_eq, cond-true, cond-false, lt-ltb, le-ltb, eq-eqb, ne_eqb, both_ways}
 use Rattle.std.proofs.lemmas.Bool.Decides.{nat_tests}
 use Rattle.bank.specs.declared.request.Mode.TheVariants.{Write}
@@ -216,11 +216,11 @@ lawful_at t r m k h i p limit pos small few full =
     }))
     (cases_lt i k)
 
-all_lawful : (t : Told) (r m k h i : ℕ) (ps : List ℕ) → t.limit r Write ≡ turn_limit m k → 1 ≤ k → All (λ p. p < 64) ps → i + length ps ≤ m → (k < i + length ps → k ≤ h) → All (Lawful t r h) (requests_from k i ps)
+all_lawful : (t : Told) (r m k h i : ℕ) (ps : List ℕ) → t.limit r Write ≡ turn_limit m k → 1 ≤ k → AllByRecursion (λ p. p < 64) ps → i + length ps ≤ m → (k < i + length ps → k ≤ h) → AllByRecursion (Lawful t r h) (requests_from k i ps)
 all_lawful t r m k h i [] limit pos small few full = tt
 all_lawful t r m k h i (p ∷ ps) limit pos small few full = (lawful_at t r m k h i p limit pos small.0 (omega arith) (λ l. full (omega arith)), all_lawful t r m k h (i + 1) ps limit pos small.1 (omega arith) (λ l. full (omega arith)))
 
-pub requests_sound : (t : Told) (r m k : ℕ) (ps : List ℕ) → t.limit r Write ≡ turn_limit m k → t.slots r ≡ k → 1 ≤ k → All (λ p. p < 64) ps → length ps ≤ m → Sound t r (requests k ps)
+pub requests_sound : (t : Told) (r m k : ℕ) (ps : List ℕ) → t.limit r Write ≡ turn_limit m k → t.slots r ≡ k → 1 ≤ k → AllByRecursion (λ p. p < 64) ps → length ps ≤ m → Sound t r (requests k ps)
 requests_sound t r m k ps limit slots pos small few =
     let h = holders_of_lem k 0 ps in
     let w = count_held holds_write (λ p. refl) (λ k i p. refl) k 0 ps in

@@ -1,5 +1,5 @@
 -- Bytes laid one after another.
-use Rattle.std.proofs.Common.{◌≡◌, ℕ, ◌+◌, List, [], ◌++◌, sym, refl, ap, ◌∙◌, add-zero, arith, length-append}
+use Rattle.std.proofs.Common.{◌≡◌, ℕ, List, [], ◌++◌, sym, refl, ap, ◌∙◌, add-zero, arith, length-append}
 use Rattle.text.specs.Memory.{overlay, Lays}
 use Rattle.text.proofs.Writes.{overlay_none, overlay_more}
 

@@ -11,7 +11,7 @@ returns-in-None c =
     let s = snapshot_of meaning c.args.controller.now in
     record {
       printed = unreadable_text;
-      laid = c.lay-unreadable.ensures;
+      laid = c.lay_unreadable.ensures;
       few = omega (arith, ap line_size c.in-None.is);
       setup = refl;
       does = subst (λ e. LineDone a s e unreadable_text s) (sym c.in-None.is) (refl, refl);

@@ -9,8 +9,8 @@ pub unreachable-requires : goal.unreachable-requires
 unreachable-requires c =
     let text : refused_text c.number.result c.args.why.line ≡ refused_text (number c.args.why.refusal) c.args.why.line = ap (λ q. refused_text q c.args.why.line) c.number.ensures in
     let short = refused_short c.args.why.refusal c.args.why.line (omega arith) in
-    puts_fit c.args.out.now 0 (refused_text (number c.args.why.refusal) c.args.why.line) c.in-Err.field-0 c.put-refused.new.out (omega arith)
-    (subst (λ t. Puts c.args.out.now 0 t (Err c.in-Err.field-0) c.put-refused.new.out) text c.in-Err.ensures)
+    puts_fit c.args.out.now 0 (refused_text (number c.args.why.refusal) c.args.why.line) c.in-Err.field-0 c.put_refused.new.out (omega arith)
+    (subst (λ t. Puts c.args.out.now 0 t (Err c.in-Err.field-0) c.put_refused.new.out) text c.in-Err.ensures)
 
 pub returns : goal.returns
 returns c =

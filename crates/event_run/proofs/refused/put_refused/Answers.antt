@@ -2,10 +2,10 @@ use Rattle.std.proofs.Common.{[], ◌∷◌, ◌++◌, codes, decimal, append_as
 use Rattle.text.proofs.Puts.{puts_more, puts_whole}
 use Rattle.event_run.proofs.refused.put_refused.Goals as goal
 
-pub returns-in-err-second : goal.returns-in-err-second
-returns-in-err-second c = search (rules, length-append)
+pub returns-in_err-second : goal.returns-in_err-second
+returns-in_err-second c = search (rules, length-append)
 
 pub returns : goal.returns
 returns c =
-    let behind = puts_more _ _ (decimal c.args.question ++ (44 ∷ [])) _ _ _ _ _ c.in-ok-second.ensures (puts_whole _ _ _ _ _ c.write-field-2.ensures) in
-    simp append_assoc at (puts_more c.args.out.now 0 (codes "plan,no,") _ _ _ _ _ c.in-ok-first.ensures behind)
+    let behind = puts_more _ _ (decimal c.args.question ++ (44 ∷ [])) _ _ _ _ _ c.in_ok-second.ensures (puts_whole _ _ _ _ _ c.write_field-2.ensures) in
+    simp append_assoc at (puts_more c.args.out.now 0 (codes "plan,no,") _ _ _ _ _ c.in_ok-first.ensures behind)

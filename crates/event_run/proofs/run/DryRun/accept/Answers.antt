@@ -15,8 +15,8 @@ use Rattle.event_run.proofs.run.DryRun.accept.Goals as goal
 pub returns : goal.returns
 returns c =
     let said = plan_contents c.args.plan.now in
-    let banks = c.banks-of-banks.result in
-    let of = c.banks-of-banks.ensures in
+    let banks = c.banks_of-banks.result in
+    let of = c.banks_of-banks.ensures in
     let text : limits_text (meaning.told banks) said ≡ limits_text (plan_told said) said = pair_text (slots_told_of banks.first) (slots_told said) (writers_told_of banks.second) (readers_writers_told said) (slots_same said banks.first of.slots) (readers_writers_same said banks.second of.told) said in
     let w = c.in-Ok.ensures.writes in
     record {

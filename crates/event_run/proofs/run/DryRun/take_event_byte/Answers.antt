@@ -8,15 +8,15 @@ use Rattle.event_run.proofs.run.DryRun.take_event_byte.Goals as goal
 pub returns-then-b-eq10 : goal.returns-then-b-eq10
 returns-then-b-eq10 c =
     let d = c.args.self.now in
-    let d' = c.close-line.new.self in
-    let e = c.close-line.ensures in
-    let takes : Takes d d' (10 ∷ []) c.args.out.now c.args.at c.close-line.result c.close-line.new.out = record {
+    let d' = c.close_line.new.self in
+    let e = c.close_line.ensures in
+    let takes : Takes d d' (10 ∷ []) c.args.out.now c.args.at c.close_line.result c.close_line.new.out = record {
       printed = e.line.printed;
       laid = e.line.laid;
       law = λ i o fed. event_line d d' c.requires.0 e.phase i o fed e.line.printed (ap (λ n. take n d'.text) e.size) e.line.setup e.line.does;
     } in
     record {
-      takes = subst (λ b. Takes d d' (b ∷ []) c.args.out.now c.args.at c.close-line.result c.close-line.new.out) (sym c.if-b-eq10.true) takes;
+      takes = subst (λ b. Takes d d' (b ∷ []) c.args.out.now c.args.at c.close_line.result c.close_line.new.out) (sym c.if-b-eq10.true) takes;
       few = omega (arith, e.few, reserve_in_lem d' Events e.phase, e.size);
       phase = e.phase;
     }

@@ -6,7 +6,7 @@ use Rattle.text.specs.Memory.{Writes}
 use Rattle.dry_run.specs.Said.{slots_told, readers_writers_told}
 use Rattle.dry_run.proofs.SameTold.{pair_text}
 use Rattle.dry_run.proofs.Planned.{slots_same, readers_writers_same}
-use Rattle.dry_run.proofs.limits.write_plan_limits.Goals as goal
+use Rattle.dry_run.proofs.plan_limits.write_plan_limits.Goals as goal
 
 pub returns : goal.returns
 returns c =
