@@ -1,17 +1,19 @@
-ghost use Rattle.std.specs.Prelude.{◌≡◌};
+ghost use Rattle.std.specs.Prelude.{◌≡◌, true};
 
 use rules::refusal::Refusal;
 
-/// A claim on what a task asked for. It can only be given back: `drop` may never run.
+/// A claim on what a task asked for. It can only be given back.
 pub struct Claim {
     task: u32,
+    spent: bool,
 }
 
 impl Drop for Claim {
+    // Runs for no claim: none is made as spent, and no contract says that one is.
     fn drop(self)
-        requires { ⊥ }
+        requires { self.spent ≡ true }
     {
-        let Claim { task: _ } = self;
+        let Claim { task: _, spent: _ } = self;
     }
 }
 
@@ -20,7 +22,7 @@ impl Claim {
     pub(crate) fn of(task: u32) -> Claim
         ensures { result.task ≡ task }
     {
-        Claim { task }
+        Claim { task, spent: false }
     }
 
     // The task that the claim is for.
@@ -34,7 +36,7 @@ impl Claim {
     pub(crate) fn spend(self) -> u32
         ensures { result ≡ self.task }
     {
-        let Claim { task } = self;
+        let Claim { task, spent: _ } = self;
         task
     }
 }

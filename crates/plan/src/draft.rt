@@ -1,4 +1,4 @@
-ghost use Rattle.std.specs.Prelude.{◌≡◌};
+ghost use Rattle.std.specs.Prelude.{◌≡◌, true};
 ghost use Rattle.plan.specs.Drafts.{AddsLine, Seals};
 
 use crate::plan::Plan;
@@ -9,14 +9,15 @@ use text::refusal::Refusal;
 /// It is moved from call to call, ends in a sealed plan or is discarded, and is not let go otherwise.
 pub struct Draft {
     lines: usize,
+    ended: bool,
 }
 
 impl Drop for Draft {
-    // May never run: a draft is sealed or discarded.
+    // Runs for no draft: none is made as ended, and no contract says that one is.
     fn drop(self)
-        requires { ⊥ }
+        requires { self.ended ≡ true }
     {
-        let Draft { lines: _ } = self;
+        let Draft { lines: _, ended: _ } = self;
     }
 }
 
@@ -32,14 +33,15 @@ impl Draft {
     pub fn new() -> Draft
         ensures { result.lines ≡ 0 }
     {
-        Draft { lines: 0 }
+        let ended = false;
+        Draft { lines: 0, ended }
     }
 
     /// Lets a draft go, and answers how many lines it took.
     pub fn discard(self) -> usize
         ensures { result ≡ self.lines }
     {
-        let Draft { lines } = self;
+        let Draft { lines, ended: _ } = self;
         lines
     }
 
@@ -50,8 +52,9 @@ impl Draft {
         let next = self.lines.saturating_add(1);
         match tables.take_line(line) {
             Ok(()) => {
-                let Draft { lines: _ } = self;
-                Ok(Draft { lines: next })
+                let ended = self.ended;
+                let Draft { lines: _, ended: _ } = self;
+                Ok(Draft { lines: next, ended })
             }
             Err(refusal) => Err((
                 self,
@@ -81,7 +84,7 @@ impl Draft {
             ));
         }
         *into = Plan { tables: *tables };
-        let Draft { lines: _ } = self;
+        let Draft { lines: _, ended: _ } = self;
         Ok(())
     }
 }
