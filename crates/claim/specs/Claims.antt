@@ -14,9 +14,9 @@ abbrev pub asked_of : Result (Asked × Claim) Refusal → Result Asked Refusal
 asked_of (Ok p) = Ok p.0
 asked_of (Err why) = Err why
 
--- the claim is for the task that asked
+-- the claim is for the task that asked, and is not spent
 abbrev pub ClaimFor : ℕ → Result (Asked × Claim) Refusal → Type 0
-ClaimFor t (Ok p) = p.1.task ≡ t
+ClaimFor t (Ok p) = (p.1.task ≡ t) × (p.1.spent ≡ false)
 ClaimFor t (Err why) = Unit {0}
 
 -- a claim handed back is refused with 9

@@ -1,4 +1,4 @@
-ghost use Rattle.std.specs.Prelude.{◌≡◌, true};
+ghost use Rattle.std.specs.Prelude.{◌≡◌, true, false};
 
 use rules::refusal::Refusal;
 
@@ -9,7 +9,7 @@ pub struct Claim {
 }
 
 impl Drop for Claim {
-    // Runs for no claim: none is made as spent, and no contract says that one is.
+    // Runs for no claim: by the contract of `ask` none is spent.
     fn drop(self)
         requires { self.spent ≡ true }
     {
@@ -20,7 +20,8 @@ impl Drop for Claim {
 impl Claim {
     // The claim of a task.
     pub(crate) fn of(task: u32) -> Claim
-        ensures { result.task ≡ task }
+        ensures task { result.task ≡ task }
+        ensures unspent { result.spent ≡ false }
     {
         Claim { task, spent: false }
     }

@@ -20,9 +20,9 @@ abbrev pub TakesLine : List ℕ → Tables → Result (Unit {0}) Refusal → Tab
 TakesLine line old (Ok done) new = (first_no (line_questions (contents_of old) (read_item line)) ≡ None) × Adds (contents_of old) (read_item line) (contents_of new)
 TakesLine line old (Err why) new = (first_no (line_questions (contents_of old) (read_item line)) ≡ Some (number why)) × (new ≡ old)
 
--- the same of a draft, which counts the line if it is taken and is handed back if not
+-- the same of a draft, which counts the line if it is taken and is handed back if not; a draft that goes on still does
 abbrev pub AddsLine : Draft → List ℕ → Tables → Result Draft (Draft × Refused) → Tables → Type 0
-AddsLine d line old (Ok e) new = TakesLine line old (Ok tt) new × (e.lines ≡ next_line d.lines)
+AddsLine d line old (Ok e) new = TakesLine line old (Ok tt) new × (e.lines ≡ next_line d.lines) × (e.ended ≡ d.ended)
 AddsLine d line old (Err p) new = TakesLine line old (Err p.1.refusal) new × (p.1.line ≡ next_line d.lines) × (p.0 ≡ d)
 
 -- the plan takes over the tables, or sealing is refused and nothing changes

@@ -1,4 +1,4 @@
-ghost use Rattle.std.specs.Prelude.{◌≡◌, true};
+ghost use Rattle.std.specs.Prelude.{◌≡◌, true, false};
 ghost use Rattle.plan.specs.Drafts.{AddsLine, Seals};
 
 use crate::plan::Plan;
@@ -13,7 +13,7 @@ pub struct Draft {
 }
 
 impl Drop for Draft {
-    // Runs for no draft: none is made as ended, and no contract says that one is.
+    // Runs for no draft: by the contracts of `new`, `add` and `seal` none has ended.
     fn drop(self)
         requires { self.ended ≡ true }
     {
@@ -31,7 +31,8 @@ pub struct Refused {
 impl Draft {
     /// A draft that has taken no line.
     pub fn new() -> Draft
-        ensures { result.lines ≡ 0 }
+        ensures empty { result.lines ≡ 0 }
+        ensures going { result.ended ≡ false }
     {
         let ended = false;
         Draft { lines: 0, ended }
