@@ -1,5 +1,5 @@
 #!/usr/bin/env python3
-"""Times target/bin/stint_events on a plan and a million events, and tells its peak memory: bench_events.py [EVENTS].
+"""Times stint_events on a plan and a million events, and tells its peak memory: bench_events.py [EVENTS].
 
 The first run has 64 tasks that release, ask, give and finish in turn, with ticks between; the second has ticks alone; the third has
 lines that are no events.
@@ -10,7 +10,8 @@ import tempfile
 import time
 from pathlib import Path
 
-STINT = Path(__file__).resolve().parent.parent / "target" / "bin" / "stint_events"
+CRATE = Path(__file__).resolve().parent.parent / "crates" / "stint_events"
+STINT = CRATE / "out" / "stint_events"
 EVENTS = int(sys.argv[1]) if len(sys.argv) > 1 else 1_000_000
 TASKS = 64
 RUNS = 5
@@ -61,6 +62,8 @@ def run(name, row):
     print(f"{name}: {count} lines in {took * 1000:.0f} ms, {count / took / 1e6:.2f} million a second, {took / count * 1e9:.0f} ns each; peak memory {peak(data)}")
 
 
+if not STINT.exists():
+    subprocess.run(["rt", "run"], cwd=CRATE, stdin=subprocess.DEVNULL, capture_output=True)
 run("mixed", mixed())
 run("ticks", ["K"])
 run("no events", ["?"])
