@@ -1,5 +1,5 @@
 -- What every run keeps is kept when a job begins, when it asks, when a request is issued and when a job ends.
-use Rattle.std.proofs.Common.{◌≡◌, ℕ, ◌+◌, ◌<◌, ◌≤◌, Bool, true, false, cond, ◌&&◌, eqb, ◌⊎◌, List, [], ◌∷◌, ◌++◌, is_some as option_is_some, Some, None, Option, unwrap_or, sym, refl, ap, ◌∙◌, subst, inl, inr, ⊎_elim, arith}
+use Rattle.std.proofs.Common.{◌≡◌, ℕ, ◌+◌, ◌<◌, ◌≤◌, Bool, true, false, cond, ◌&&◌, eqb, ◌⊎◌, List, [], ◌∷◌, ◌++◌, is_some, Some, None, Option, unwrap_or, sym, refl, ap, ◌∙◌, subst, inl, inr, ⊎_elim, arith}
 use Rattle.std.proofs.lemmas.Bool.{eqb-true, eq-eqb, ne_eqb, false≢true, cases_eq, cond-true, cond-false}
 use Rattle.std.specs.List.{AllByRecursion}
 use Rattle.bank.specs.Lists.{request_of}
@@ -17,10 +17,7 @@ use Rattle.rules.proofs.Words.{TaskWords, state_in, jobs_of, Placed, TaskKept, I
 pub some_none : {A : Type 0} {x : A} {o : Option A} → o ≡ None → o ≡ Some x → ⊥
 some_none p q = let z : ◌≡◌ {A = ℕ} 0 1 = cc in omega arith
 
-pub is_some : {A : Type 0} {x : A} {o : Option A} → o ≡ Some x → option_is_some o ≡ true
-is_some p = rw p
-
-pub none_some : {A : Type 0} {o : Option A} → o ≡ None → option_is_some o ≡ true → ⊥
+pub none_some : {A : Type 0} {o : Option A} → o ≡ None → is_some o ≡ true → ⊥
 none_some p q = false≢true (rw p at (ap (λ (b : Bool). b) q))
 
 -- what holds of every listed task holds of each entry's
@@ -50,10 +47,10 @@ same_lists : (a : Setup) (q : ℕ) (ls : Lists) → SameEntries a q ls ls
 same_lists a q ls r lt = (refl, refl)
 
 -- a job has a number where its task has a request
-pub has_job : (a : Setup) (n : ℕ) (ls : Lists) (q : ℕ) (k : TaskWords) → TaskKept a n ls q k → option_is_some k.wanted ≡ true → option_is_some k.job ≡ true
+pub has_job : (a : Setup) (n : ℕ) (ls : Lists) (q : ℕ) (k : TaskWords) → TaskKept a n ls q k → is_some k.wanted ≡ true → is_some k.job ≡ true
 has_job a n ls q k t e = go k.job refl
   where
-    go : (o : Option ℕ) → k.job ≡ o → option_is_some o ≡ true
+    go : (o : Option ℕ) → k.job ≡ o → is_some o ≡ true
     go None f = absurd (none_some (t.no_job f) e)
     go (Some m) f = refl
 
@@ -81,11 +78,11 @@ module _ (a : Setup) (ks ks' : ℕ → TaskWords) (ls : Lists) (n p : ℕ) (i : 
   kept : (q : ℕ) → TaskKept a (n + 1) ls q (ks' q)
   kept = each_task ks ks' p _ c (TaskKept a (n + 1) ls) begun (λ q e. task_same a n (n + 1) q (ks q) ls ls (omega arith) (same_lists a q ls) (i.tasks q))
 
-  numbers : (t : ℕ) → option_is_some (ks' t).job ≡ true → ((p ≡ t) × (unwrap_or (ks' t).job 0 ≡ n)) ⊎ ((eqb p t ≡ false) × (unwrap_or (ks' t).job 0 < n))
-  numbers = each_task ks ks' p _ c (λ t k. option_is_some k.job ≡ true → ((p ≡ t) × (unwrap_or k.job 0 ≡ n)) ⊎ ((eqb p t ≡ false) × (unwrap_or k.job 0 < n)))
+  numbers : (t : ℕ) → is_some (ks' t).job ≡ true → ((p ≡ t) × (unwrap_or (ks' t).job 0 ≡ n)) ⊎ ((eqb p t ≡ false) × (unwrap_or (ks' t).job 0 < n))
+  numbers = each_task ks ks' p _ c (λ t k. is_some k.job ≡ true → ((p ≡ t) × (unwrap_or k.job 0 ≡ n)) ⊎ ((eqb p t ≡ false) × (unwrap_or k.job 0 < n)))
       (λ e. inl (refl, refl)) (λ q e f. inr (e, (i.tasks q).below f))
 
-  apart' : (t u : ℕ) → option_is_some (ks' t).job ≡ true → option_is_some (ks' u).job ≡ true → unwrap_or (ks' t).job 0 ≡ unwrap_or (ks' u).job 0 → t ≡ u
+  apart' : (t u : ℕ) → is_some (ks' t).job ≡ true → is_some (ks' u).job ≡ true → unwrap_or (ks' t).job 0 ≡ unwrap_or (ks' u).job 0 → t ≡ u
   apart' t u et eu same = ⊎_elim
       (λ (x : (p ≡ t) × (unwrap_or (ks' t).job 0 ≡ n)). ⊎_elim
       (λ (y : (p ≡ u) × (unwrap_or (ks' u).job 0 ≡ n)). sym x.0 ∙ y.0)
@@ -98,21 +95,21 @@ module _ (a : Setup) (ks ks' : ℕ → TaskWords) (ls : Lists) (n p : ℕ) (i : 
       job_is : (q : ℕ) → eqb p q ≡ false → unwrap_or (ks' q).job 0 ≡ unwrap_or (ks q).job 0
       job_is q e = ap (λ (k : TaskWords). unwrap_or k.job 0) (c.others q e)
 
-      old : (q : ℕ) → eqb p q ≡ false → option_is_some (ks' q).job ≡ true → option_is_some (ks q).job ≡ true
-      old q e f = sym (ap (λ (k : TaskWords). option_is_some k.job) (c.others q e)) ∙ f
+      old : (q : ℕ) → eqb p q ≡ false → is_some (ks' q).job ≡ true → is_some (ks q).job ≡ true
+      old q e f = sym (ap (λ (k : TaskWords). is_some k.job) (c.others q e)) ∙ f
 
-  pub first_begun : (t : ℕ) → option_is_some (ks t).job ≡ true → first a (jobs_of ks' ls) t ≡ first a (jobs_of ks ls) t
+  pub first_begun : (t : ℕ) → is_some (ks t).job ≡ true → first a (jobs_of ks' ls) t ≡ first a (jobs_of ks ls) t
   first_begun t e =
       first_released a (jobs_of ks ls) (jobs_of ks' ls) p
       (λ q ne. let e = c.others q (ne_eqb p q (λ k. ne (sym k))) in (ap (λ (k : TaskWords). state_in q k ls) e, ap (λ (k : TaskWords). unwrap_or k.job 0) e))
-      n (numbered a nobody ks ls n i) (unfinished_job a ks ls p ∙ ap option_is_some idle)
+      n (numbered a nobody ks ls n i) (unfinished_job a ks ls p ∙ ap is_some idle)
       (ap (λ (k : TaskWords). unwrap_or k.job 0) c.self) t (unfinished_job a ks ls t ∙ e)
 
   pub release_step : Inv a nobody ks' ls (n + 1)
   release_step = record {
     tasks = kept;
     apart = apart';
-    firsts = λ t x. each_task ks ks' p _ c (λ t k. option_is_some k.wanted ≡ true → first a (jobs_of ks' ls) t ≡ k.issued)
+    firsts = λ t x. each_task ks ks' p _ c (λ t k. is_some k.wanted ≡ true → first a (jobs_of ks' ls) t ≡ k.issued)
         (λ e. absurd (false≢true e)) (λ q e f. first_begun q (has_job a n ls q (ks q) (i.tasks q) f) ∙ i.firsts q refl f) t;
     owed = λ r lr. owed_others a ks ks' p _ c r (longest_at a.plan r) (ls r) (unlisted a n ls p (ks p) (i.tasks p) unissued r lr) (i.owed r lr);
     sound = i.sound;
@@ -123,16 +120,16 @@ pub same_job : (ks ks' : ℕ → TaskWords) (p : ℕ) (new : TaskWords) → Chan
 same_job ks ks' p new c e = each_task ks ks' p new c (λ q k. k.job ≡ (ks q).job) e (λ q f. refl)
 
 pub same_apart : (ks ks' : ℕ → TaskWords) → ((q : ℕ) → (ks' q).job ≡ (ks q).job)
-    → ((t u : ℕ) → option_is_some (ks t).job ≡ true → option_is_some (ks u).job ≡ true → unwrap_or (ks t).job 0 ≡ unwrap_or (ks u).job 0 → t ≡ u)
-    → (t u : ℕ) → option_is_some (ks' t).job ≡ true → option_is_some (ks' u).job ≡ true → unwrap_or (ks' t).job 0 ≡ unwrap_or (ks' u).job 0 → t ≡ u
+    → ((t u : ℕ) → is_some (ks t).job ≡ true → is_some (ks u).job ≡ true → unwrap_or (ks t).job 0 ≡ unwrap_or (ks u).job 0 → t ≡ u)
+    → (t u : ℕ) → is_some (ks' t).job ≡ true → is_some (ks' u).job ≡ true → unwrap_or (ks' t).job 0 ≡ unwrap_or (ks' u).job 0 → t ≡ u
 same_apart ks ks' same apart t u x y e =
-    apart t u (sym (ap option_is_some (same t)) ∙ x) (sym (ap option_is_some (same u)) ∙ y) (sym (ap (λ (o : Option ℕ). unwrap_or o 0) (same t)) ∙ e ∙ ap (λ (o : Option ℕ). unwrap_or o 0) (same u))
+    apart t u (sym (ap is_some (same t)) ∙ x) (sym (ap is_some (same u)) ∙ y) (sym (ap (λ (o : Option ℕ). unwrap_or o 0) (same t)) ∙ e ∙ ap (λ (o : Option ℕ). unwrap_or o 0) (same u))
 
 pub some_same : {A : Type 0} {x y : A} → Some x ≡ Some y → x ≡ y
 some_same e = cc
 
 -- a job asks
-module _ (a : Setup) (ks ks' : ℕ → TaskWords) (ls : Lists) (n p : ℕ) (w : Wanted) (i : Inv a nobody ks ls n) (has : option_is_some (ks p).job ≡ true) (free : (ks p).wanted ≡ None) (place : Placed a p w)
+module _ (a : Setup) (ks ks' : ℕ → TaskWords) (ls : Lists) (n p : ℕ) (w : Wanted) (i : Inv a nobody ks ls n) (has : is_some (ks p).job ≡ true) (free : (ks p).wanted ≡ None) (place : Placed a p w)
     (c : Changed ks ks' p (record { job = (ks p).job; wanted = Some w; issued = false; used = 0; waited = (ks p).waited; job_waited = (ks p).job_waited; blocked = (ks p).blocked })) where
   unasked : (ks p).issued ≡ false
   unasked = (i.tasks p).no_request free
@@ -156,7 +153,7 @@ module _ (a : Setup) (ks ks' : ℕ → TaskWords) (ls : Lists) (n p : ℕ) (w : 
   ask_step = record {
     tasks = each_task ks ks' p _ c (TaskKept a n ls) asking (λ q e. i.tasks q);
     apart = same_apart ks ks' (same_job ks ks' p _ c refl) i.apart;
-    firsts = λ t e f. first_jobs a ks ks' ls ls (same_job ks ks' p _ c refl) t ∙ i.firsts t refl (sym (ap (λ (k : TaskWords). option_is_some k.wanted) (c.others t e)) ∙ f) ∙ sym (ap (λ (k : TaskWords). k.issued) (c.others t e));
+    firsts = λ t e f. first_jobs a ks ks' ls ls (same_job ks ks' p _ c refl) t ∙ i.firsts t refl (sym (ap (λ (k : TaskWords). is_some k.wanted) (c.others t e)) ∙ f) ∙ sym (ap (λ (k : TaskWords). k.issued) (c.others t e));
     owed = λ r lr. owed_others a ks ks' p _ c r (longest_at a.plan r) (ls r) (unlisted a n ls p (ks p) (i.tasks p) unasked r lr) (i.owed r lr);
     sound = i.sound;
   }
@@ -233,7 +230,7 @@ module _ (a : Setup) (ks ks' : ℕ → TaskWords) (ls ls' : Lists) (n p : ℕ) (
   issue_step = record {
     tasks = each_task ks ks' p _ c (TaskKept a n ls') entering (λ q e. task_same a n n q (ks q) ls ls' (omega arith) (entered_others a p w.resource ls ls' added.request added.list added.party others q e) (i.tasks q));
     apart = same_apart ks ks' (same_job ks ks' p _ c refl) i.apart;
-    firsts = λ t z. each_task ks ks' p _ c (λ t k. option_is_some k.wanted ≡ true → first a (jobs_of ks' ls') t ≡ k.issued) (λ e. first_new p ∙ early) (λ q e f. first_new q ∙ i.firsts q e f) t;
+    firsts = λ t z. each_task ks ks' p _ c (λ t k. is_some k.wanted ≡ true → first a (jobs_of ks' ls') t ≡ k.issued) (λ e. first_new p ∙ early) (λ q e f. first_new q ∙ i.firsts q e f) t;
     owed = owed_new;
     sound = sound';
   }

@@ -1,6 +1,6 @@
 -- What the calls of a bank of slot resources mean.
 use Rattle.std.specs.Prelude.{◌≡◌, ℕ, ◌+◌, ◌<◌, Bool, true, length, None, Ok, Err, Result, nat_lt, slice_index_or, refl}
-use Rattle.std.proofs.Common.{sym, ap, subst, ◌∙◌, arith}
+use Rattle.std.proofs.Common.{◌-◌, sym, ap, subst, ◌∙◌, arith, div-le_self}
 use Rattle.std.specs.List.{AllZip, remove, AllByRecursion}
 use Rattle.std.proofs.ByRecursion.{All-from_get_or}
 use Rattle.std.proofs.lemmas.List.{length-take, get_or-take}
@@ -9,7 +9,7 @@ use Rattle.std.proofs.lemmas.Bool.Decides.{nat_tests}
 use Rattle.text.specs.Questions.{first_no}
 use Rattle.bank.specs.Lists.{is_holder, without}
 use Rattle.bank.specs.Questions.{enter_questions, leave_questions}
-use Rattle.bank.specs.Meaning.{Sound, Others, Enters, Leaves, Keeps, Stays}
+use Rattle.bank.specs.Meaning.{Small, Sound, Others, Enters, Leaves, Keeps, Stays}
 use Rattle.bank.specs.declared.refusal.Refusal.{Refusal}
 use Rattle.bank.specs.declared.request.Mode.{Mode}
 use Rattle.bank.specs.declared.request.Mode.TheVariants.{Write, Read}
@@ -17,11 +17,20 @@ use Rattle.slots.specs.Lines.{holding, line, request_at, requests}
 use Rattle.slots.specs.Of.{holders_of, parties_of, told_of, active_of, refused_by, OthersStay, Full, EntersLast, LeavesPlace, NextHolds}
 use Rattle.slots.specs.Rows.{bare, place}
 use Rattle.slots.specs.declared.slots.Slots.{Slots}
-use Rattle.slots.specs.Requests.{requests_push, request_party, request_mode, request_holds, holder_is, leaves_front, requests_sound, waits_full}
+use Rattle.slots.specs.Requests.{limit_is, requests_push, request_party, request_mode, request_holds, holder_is, leaves_front, requests_sound, waits_full}
 use Rattle.slots.specs.RowsLemmas.{front_removed}
 
 pub is_full : (s : Slots) → Full s
 is_full s r = waits_full (holders_of s r) (parties_of s r)
+
+pub is_small : (s : Slots) → Small (told_of s)
+is_small s =
+    record {
+      resources = s.sized.1;
+      some = s.seated.0;
+      seats = s.seated.1;
+      limits = λ r m l e. omega (arith, limit_is s.seats (holders_of s r) s.seated.0 (s.sized.2 r l), div-le_self (s.seats - 1) (holders_of s r));
+    }
 
 pub is_sound : (s : Slots) (r : ℕ) → r < s.count → Sound (told_of s) r (active_of s r)
 is_sound s r l =

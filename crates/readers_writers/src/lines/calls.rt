@@ -3,10 +3,7 @@ ghost use Rattle.bank.specs.Meaning.{Enters, Leaves, Keeps};
 ghost use Rattle.readers_writers.specs.Banks.{told_of, active_of};
 ghost use Rattle.readers_writers.specs.Exactly.{EntersExactly, LeavesExactly};
 ghost use Rattle.readers_writers.specs.Of.{Settled, entries_of};
-ghost use Rattle.readers_writers.specs.ReadersWritersBankLemmas.{low};
-ghost use Rattle.std.proofs.Common.{arith};
-ghost use Rattle.readers_writers.specs.BanksLemmas.{few_entries};
-ghost use Rattle.readers_writers.specs.Sound;
+ghost use Rattle.readers_writers.specs.ReadersWritersBankLemmas.{is_small, is_sound};
 
 use crate::lines::ReadersWriters;
 use bank::meaning::Bank;
@@ -18,13 +15,9 @@ impl Bank for ReadersWriters {
 
     ghost active = { active_of };
 
-    ghost small = { λ b. record { resources = b.few; some = b.seated; seats = b.most; limits = λ r m l k. low b.seats m b.most } };
+    ghost small = { is_small };
 
-    ghost sound = { λ b r l.
-        let k = b.kept r l in
-        let m = b.most in
-        let n = few_entries b.lines b.count b.seats r b.kept b.most l in
-        Sound.sound b.count b.seats r (entries_of b.lines r) k.3 k.2 (omega arith) };
+    ghost sound = { is_sound };
 
     fn resources(&self) -> u32 {
         self.count

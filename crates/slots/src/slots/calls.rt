@@ -1,4 +1,4 @@
-ghost use Rattle.std.specs.Prelude.{◌≡◌, ◌-◌, ◌<◌, true, [], ◌∷◌, ◌++◌, length, Some, None};
+ghost use Rattle.std.specs.Prelude.{◌≡◌, ◌<◌, true, [], ◌∷◌, ◌++◌, length, Some, None};
 ghost use Rattle.std.specs.List.{remove, slice_get};
 ghost use Rattle.text.specs.Questions.{first_no};
 ghost use Rattle.bank.specs.Questions.{number, enter_questions, leave_questions};
@@ -7,9 +7,7 @@ ghost use Rattle.bank.specs.Lists.{is_active, is_holder, request_of};
 ghost use Rattle.slots.specs.Lines.{request_at};
 ghost use Rattle.slots.specs.Rows.{place};
 ghost use Rattle.slots.specs.Of.{holders_of, parties_of, told_of, active_of, refused_by, OthersStay, Full, EntersLast, LeavesPlace, NextHolds};
-ghost use Rattle.std.proofs.Common.{arith, div-le_self};
-ghost use Rattle.slots.specs.Requests.{limit_is};
-ghost use Rattle.slots.specs.Meaning.{is_sound};
+ghost use Rattle.slots.specs.Meaning.{is_small, is_sound};
 
 use crate::slots::Slots;
 use bank::meaning::Bank;
@@ -221,15 +219,9 @@ impl Bank for Slots {
 
     ghost active = { λ s r. active_of s r };
 
-    ghost small = { λ b.
-        record {
-          resources = b.sized.1;
-          some = b.seated.0;
-          seats = b.seated.1;
-          limits = λ r m l e. omega (arith, limit_is b.seats (holders_of b r) b.seated.0 (b.sized.2 r l), div-le_self (b.seats - 1) (holders_of b r));
-        } };
+    ghost small = { is_small };
 
-    ghost sound = { λ b r l. is_sound b r l };
+    ghost sound = { is_sound };
 
     fn resources(&self) -> u32 {
         self.count as u32
