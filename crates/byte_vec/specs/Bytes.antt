@@ -8,6 +8,11 @@ abbrev pub Appends : ℕ → List ℕ → List ℕ → Result (Unit {0}) Full �
 Appends n old bytes (Ok done) new = (length old + length bytes ≤ n) × (new ≡ old ++ bytes)
 Appends n old bytes (Err full) new = (n < length old + length bytes) × (new ≡ old)
 
+-- the same where bytes are appended one part after another: an early refusal may leave some of them there
+abbrev pub Pushes : ℕ → List ℕ → List ℕ → Result (Unit {0}) Full → List ℕ → Type 0
+Pushes n old bytes (Ok done) new = (length old + length bytes ≤ n) × (new ≡ old ++ bytes)
+Pushes n old bytes (Err full) new = n < length old + length bytes
+
 -- the byte at a place is gone and answered, or there is none
 abbrev pub Removes : List ℕ → ℕ → Option ℕ → List ℕ → Type 0
 Removes old place (Some b) new = (slice_get old place ≡ Some b) × (new ≡ remove old place)

@@ -31,6 +31,14 @@ is_newline [] = false
 is_newline (b ∷ []) = b == 10
 is_newline (b ∷ c ∷ bs) = false
 
+-- the number of a last field, where the newline follows it
+abbrev pub ended_number : Option (ℕ × List ℕ) → Option ℕ
+ended_number None = None
+ended_number (Some p) = cond (is_newline p.1) (Some p.0) None
+
+abbrev pub read_last : List ℕ → Option ℕ
+read_last bs = ended_number (read_field bs)
+
 -- what a last number makes, where the newline follows it
 abbrev pub last_number : (ℕ → Item) → Option (ℕ × List ℕ) → Option Item
 last_number make None = None

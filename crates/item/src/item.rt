@@ -1,5 +1,5 @@
 /// What one line of a plan says.
-#[derive(Clone, Copy)]
+#[derive(Clone, Copy, Debug, PartialEq, Eq)]
 pub enum Item {
     /// `C,c`: a cluster of c processors.
     Cluster(u32),

@@ -1,61 +1,21 @@
-ghost use Rattle.std.specs.Prelude.{◌≡◌, ℕ, Some, None};
-ghost use Rattle.item.specs.Lines.{read_field, is_newline, read_one, read_three, read_form, read_item, IsLineOf};
+ghost use Rattle.std.specs.Prelude.{◌≡◌};
+ghost use Rattle.item.specs.Lines.{read_three, read_form, read_item, IsLineOf};
 
+use crate::field::{is_newline, read_field, read_last};
 use crate::item::Item;
-use text::number::read_number;
-
-// A comma, and the number behind it with the rest.
-fn field(s: &[u8]) -> Option<(u32, &[u8])>
-    ensures { read_field s.now ≡ elim result [ None ↦ None | Some p ↦ Some (p.0, p.1.now) ] }
-{
-    match s {
-        [b',', rest @ ..] => read_number(rest),
-        _ => None,
-    }
-}
-
-// Whether a newline is all that is left.
-fn at_newline(s: &[u8]) -> bool
-    ensures { result ≡ is_newline s.now }
-{
-    match s {
-        [b'\n'] => true,
-        _ => false,
-    }
-}
-
-// The one number of a line behind its letter.
-fn one_number(s: &[u8]) -> Option<u32>
-    ensures { (make : ℕ → Item) → read_one make s.now ≡ elim result [ None ↦ None | Some n ↦ Some (make n) ] }
-{
-    match field(s) {
-        Some((n, rest)) => { if at_newline(rest) { Some(n) } else { None } }
-        None => None,
-    }
-}
 
 // The three numbers of a length behind its letter.
 fn length(s: &[u8]) -> Option<Item>
     ensures { result ≡ read_three s.now }
 {
-    let Some((task, behind)) = field(s) else {
-        return None;
-    };
-    let Some((resource, last)) = field(behind) else {
-        return None;
-    };
-    let Some((ticks, rest)) = field(last) else {
-        return None;
-    };
-    if at_newline(rest) {
-        Some(Item::Length {
-            task,
-            resource,
-            ticks,
-        })
-    } else {
-        None
-    }
+    let (task, behind) = read_field(s)?;
+    let (resource, last) = read_field(behind)?;
+    let ticks = read_last(last)?;
+    Some(Item::Length {
+        task,
+        resource,
+        ticks,
+    })
 }
 
 // The item that a letter and what stands behind it are.
@@ -63,16 +23,10 @@ fn form(letter: u8, rest: &[u8]) -> Option<Item>
     ensures { result ≡ read_form letter rest.now }
 {
     match letter as char {
-        'C' => Some(Item::Cluster(one_number(rest)?)),
-        'S' => Some(Item::Slots(one_number(rest)?)),
-        'W' => {
-            if at_newline(rest) {
-                Some(Item::ReaderWriter)
-            } else {
-                None
-            }
-        }
-        'T' => Some(Item::Task(one_number(rest)?)),
+        'C' => Some(Item::Cluster(read_last(rest)?)),
+        'S' => Some(Item::Slots(read_last(rest)?)),
+        'W' => is_newline(rest).then_some(Item::ReaderWriter),
+        'T' => Some(Item::Task(read_last(rest)?)),
         'L' => length(rest),
         _ => None,
     }
@@ -82,10 +36,8 @@ fn form(letter: u8, rest: &[u8]) -> Option<Item>
 fn parse(line: &[u8]) -> Option<Item>
     ensures { result ≡ read_item line.now }
 {
-    match line {
-        [letter, rest @ ..] => form(*letter, rest),
-        _ => None,
-    }
+    let (letter, rest) = line.split_first()?;
+    form(*letter, rest)
 }
 
 impl Item {

@@ -6,11 +6,7 @@ fn count_plain(s: &[u8]) -> usize
     ensures counted { result ≡ before_newline s.now }
     ensures within { result ≤ length s.now }
 {
-    let mut n = 0;
-    while n < s.len() && s[n] != b'\n' {
-        n += 1;
-    }
-    n
+    s.iter().take_while(|b| **b != b'\n').count()
 }
 
 // How many bytes the first line has, with its newline if there is one.

@@ -1,22 +1,21 @@
 ghost use Rattle.std.specs.Prelude.{◌≡◌, ℕ, ◌+◌, ◌<◌, ◌≤◌, true, ◌++◌, length, drop, Some, None, decimal, slice_index};
 ghost use Rattle.std.specs.Char.{is_ascii_digit};
 ghost use Rattle.std.specs.List.{prefix_len};
+ghost use Rattle.byte_vec.specs.Bytes.{Appends};
 ghost use Rattle.text.specs.Numbers.{value_of, read_number, IsWritten, ReadsBack};
 ghost use Rattle.text.specs.Memory.{overlay, Writes, Puts};
 
-use crate::memory::write_bytes;
+use crate::memory::{put_bytes, write_bytes};
 use crate::refusal::Refusal;
+use byte_vec::byte_vec::{ByteVec, Full};
+use itoa::Buffer;
 
 // How many digits stand at the head of a text.
 fn count_digits(s: &[u8]) -> usize
     ensures counted { result ≡ prefix_len is_ascii_digit s.now }
     ensures within { result ≤ length s.now }
 {
-    let mut n = 0;
-    while n < s.len() && s[n].is_ascii_digit() {
-        n += 1;
-    }
-    n
+    s.iter().take_while(|b| b.is_ascii_digit()).count()
 }
 
 // The number that at most five digits write.
@@ -50,13 +49,9 @@ fn head_number(s: &[u8]) -> Option<(u32, usize)>
 fn split_number(s: &[u8]) -> Option<(u32, &[u8])>
     ensures { read_number s.now ≡ elim result [ None ↦ None | Some p ↦ Some (p.0, p.1.now) ] }
 {
-    match head_number(s) {
-        Some((n, size)) => {
-            let (_, rest) = s.split_at(size);
-            Some((n, rest))
-        }
-        None => None,
-    }
+    let (n, size) = head_number(s)?;
+    let (_, rest) = s.split_at(size);
+    Some((n, rest))
 }
 
 /// The number at the head of a text, and the rest of the text.
@@ -67,44 +62,18 @@ pub fn read_number(s: &[u8]) -> Option<(u32, &[u8])>
     split_number(s)
 }
 
-// How many digits a number has.
-fn width(n: u64) -> usize
-    ensures { result ≡ length (decimal n) }
-{
-    if n < 10 { 1 } else { width(n / 10) + 1 }
-}
-
 /// How many bytes a number is written in.
 pub fn number_size(n: u64) -> usize
     ensures { result ≡ length (decimal n) }
 {
-    width(n)
-}
-
-// Puts a number's digits at a place where they fit, and answers the place behind them.
-fn put_digits(out: &mut [u8], at: usize, n: u64) -> usize
-    requires { at + length (decimal n) ≤ length out.old }
-    ensures end { result ≡ at + length (decimal n) }
-    ensures text { out.new ≡ overlay out.old at (decimal n) }
-{
-    if n < 10 {
-        out[at] = b'0' + n as u8;
-        at + 1
-    } else {
-        let end = put_digits(out, at, n / 10);
-        out[end] = b'0' + (n % 10) as u8;
-        end + 1
-    }
+    Buffer::new().format(n).len()
 }
 
 // Writes a number's digits at a place where they fit.
 fn put_number(out: &mut [u8], at: usize, n: u64) -> Result<usize, Refusal>
     ensures { Writes out.old at (decimal n) result out.new }
 {
-    if out.len() < at || out.len() - at < width(n) {
-        return Err(Refusal::Memory);
-    }
-    Ok(put_digits(out, at, n))
+    write_bytes(out, at, Buffer::new().format(n).as_bytes())
 }
 
 /// Writes a number's digits at a place, and answers the place behind them.
@@ -115,27 +84,28 @@ pub fn write_number(out: &mut [u8], at: usize, n: u64) -> Result<usize, Refusal>
     put_number(out, at, n)
 }
 
-// A number and the bytes behind it, as far as they fit.
-fn put_field(out: &mut [u8], at: usize, n: u64, behind: &[u8]) -> Result<usize, Refusal>
-    ensures { Puts out.old at (decimal n ++ behind.now) result out.new }
-{
-    let end = put_number(out, at, n)?;
-    write_bytes(out, end, behind)
-}
-
-// How many bytes a number and the bytes behind it are.
-fn field_size(n: u64, behind: &[u8]) -> usize
-    ensures { result ≡ length (decimal n ++ behind.now) }
-{
-    number_size(n) + behind.len()
-}
-
 /// Writes a number and the bytes behind it at a place, and answers the place behind them.
 pub fn write_field(out: &mut [u8], at: usize, n: u64, behind: &[u8]) -> Result<usize, Refusal>
     ensures { Writes out.old at (decimal n ++ behind.now) result out.new }
 {
-    if out.len() < at || out.len() - at < field_size(n, behind) {
+    let mut buffer = Buffer::new();
+    let digits = buffer.format(n).as_bytes();
+    if out.len() < at || out.len() - at < digits.len() + behind.len() {
         return Err(Refusal::Memory);
     }
-    put_field(out, at, n, behind)
+    let end = put_bytes(out, at, digits);
+    Ok(put_bytes(out, end, behind))
+}
+
+/// Appends a number and the bytes behind it.
+pub fn push_field<const N: usize>(line: &mut ByteVec<N>, n: u64, behind: &[u8]) -> Result<(), Full>
+    ensures { Appends N line.old (decimal n ++ behind.now) result line.new }
+{
+    let mut buffer = Buffer::new();
+    let digits = buffer.format(n).as_bytes();
+    if N - line.len() < digits.len() + behind.len() {
+        return Err(Full);
+    }
+    line.extend_from_slice(digits)?;
+    line.extend_from_slice(behind)
 }

@@ -1,0 +1,35 @@
+ghost use Rattle.std.specs.Prelude.{◌≡◌, Some, None};
+ghost use Rattle.item.specs.Lines.{read_field, is_newline, read_last};
+
+use text::number::read_number;
+
+fn behind_comma(s: &[u8]) -> Option<(u32, &[u8])>
+    ensures { read_field s.now ≡ elim result [ None ↦ None | Some p ↦ Some (p.0, p.1.now) ] }
+{
+    match s {
+        [b',', rest @ ..] => read_number(rest),
+        _ => None,
+    }
+}
+
+/// The number of a field behind its comma, and the rest of the line.
+pub fn read_field(s: &[u8]) -> Option<(u32, &[u8])>
+    ensures { read_field s.now ≡ elim result [ None ↦ None | Some p ↦ Some (p.0, p.1.now) ] }
+{
+    behind_comma(s)
+}
+
+/// Whether a newline is all that is left.
+pub fn is_newline(s: &[u8]) -> bool
+    ensures { result ≡ is_newline s.now }
+{
+    matches!(s, [b'\n'])
+}
+
+/// The number of the last field of a line, behind its comma and before its newline.
+pub fn read_last(s: &[u8]) -> Option<u32>
+    ensures { result ≡ read_last s.now }
+{
+    let (n, rest) = behind_comma(s)?;
+    is_newline(rest).then_some(n)
+}
