@@ -5,8 +5,8 @@ use Rattle.std.proofs.lemmas.Bool.{false≢true, eqb-true, cond_both}
 use Rattle.bank.specs.declared.request.Mode.{Mode}
 use Rattle.bank.specs.declared.request.Mode.TheVariants.{Write, Read}
 use Rattle.item.specs.Lines.{read_field, is_newline}
-use Rattle.text.specs.Numbers.{read_number, IsWritten}
-use Rattle.text.proofs.Numbers.{is_written, reads_back}
+use Rattle.text.proofs.Numbers.{reads_back}
+use Rattle.item.proofs.Lines.{FieldOf, field_of, newline_alone, size_number}
 use Rattle.event.specs.declared.event.Event.{Event}
 use Rattle.event.specs.declared.event.Event.TheVariants.{Release, Ask, Give, Finish, Tick}
 use Rattle.event.specs.Lines.{mode_letter, event_text, last_number, mode_of, read_mode, asks_in, read_one, read_second, read_first, read_event, Writable, IsLineOf}
@@ -21,24 +21,6 @@ read_back (Ask t r m) small = ask_back t r m small.0 small.1
 read_back (Give t) small = ap (last_number Give) (reads_back t small (10 ∷ []) refl)
 read_back (Finish t) small = ap (last_number Finish) (reads_back t small (10 ∷ []) refl)
 read_back Tick small = refl
-
--- a field that was read, written, is the bytes it was read from
-abbrev FieldOf : List ℕ → Option (ℕ × List ℕ) → Type 0
-FieldOf bs None = Unit {0}
-FieldOf bs (Some p) = (bs ≡ 44 ∷ (decimal p.0 ++ p.1)) × (p.0 < 100000)
-
-behind_comma : (b : ℕ) (bs : List ℕ) (o : Option (ℕ × List ℕ)) → b ≡ 44 → IsWritten bs o → FieldOf (b ∷ bs) o
-behind_comma b bs None e w = tt
-behind_comma b bs (Some p) e w = let text = w.0 in ((cc), w.1)
-
-field_of : (bs : List ℕ) → FieldOf bs (read_field bs)
-field_of [] = tt
-field_of (b ∷ bs) = cond_both (eqb b 44) (read_number bs) None (FieldOf (b ∷ bs)) (λ e. behind_comma b bs (read_number bs) (eqb-true b 44 e) (is_written bs)) (λ e. tt)
-
-newline_alone : (bs : List ℕ) → is_newline bs ≡ true → bs ≡ 10 ∷ []
-newline_alone [] e = absurd (false≢true e)
-newline_alone (b ∷ []) e = ap (λ c. c ∷ []) (eqb-true b 10 e)
-newline_alone (b ∷ c ∷ bs) e = absurd (false≢true e)
 
 -- an event that was read, written, is the line it was read from
 abbrev EventOf : List ℕ → Option Event → Type 0
@@ -103,8 +85,6 @@ is_line_of line = from (read_event line) refl (event_of_lem line)
     from None e w = λ i small text. let z = sym e ∙ (ap read_event text ∙ read_back i small) in let n : ◌≡◌ {A = ℕ} 0 1 = cc in omega arith
     from (Some i) e w = w
 
-pub size_number : (n : ℕ) → n < 100000 → length (decimal n) ≤ 5
-size_number n small = length-decimal-le 5 n (omega arith) (omega arith) (omega arith)
 
 pub size_mode : (m : Mode) → length (mode_letter m ++ (10 ∷ [])) ≡ 2
 size_mode Write = refl

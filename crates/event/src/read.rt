@@ -1,41 +1,9 @@
-ghost use Rattle.std.specs.Prelude.{◌≡◌, ℕ, Some, None};
-ghost use Rattle.item.specs.Lines.{read_field, is_newline};
-ghost use Rattle.event.specs.declared.event.Event.{Event as Line};
-ghost use Rattle.event.specs.Lines.{mode_of, read_mode, read_one, read_ask, read_form, read_event, IsLineOf};
+ghost use Rattle.std.specs.Prelude.{◌≡◌};
+ghost use Rattle.event.specs.Lines.{mode_of, read_mode, read_ask, read_form, read_event, IsLineOf};
 
 use crate::event::Event;
 use bank::request::Mode;
-use text::number::read_number;
-
-// A comma, and the number behind it with the rest.
-fn field(s: &[u8]) -> Option<(u32, &[u8])>
-    ensures { read_field s.now ≡ elim result [ None ↦ None | Some p ↦ Some (p.0, p.1.now) ] }
-{
-    match s {
-        [b',', rest @ ..] => read_number(rest),
-        _ => None,
-    }
-}
-
-// Whether a newline is all that is left.
-fn at_newline(s: &[u8]) -> bool
-    ensures { result ≡ is_newline s.now }
-{
-    match s {
-        [b'\n'] => true,
-        _ => false,
-    }
-}
-
-// The one number of a line behind its letter.
-fn one_number(s: &[u8]) -> Option<u32>
-    ensures { (make : ℕ → Line) → read_one make s.now ≡ elim result [ None ↦ None | Some n ↦ Some (make n) ] }
-{
-    match field(s) {
-        Some((n, rest)) => { if at_newline(rest) { Some(n) } else { None } }
-        None => None,
-    }
-}
+use item::field::{is_newline, read_field, read_last};
 
 // The mode that a letter is.
 fn letter_mode(letter: u8) -> Option<Mode>
@@ -62,15 +30,9 @@ fn last_mode(s: &[u8]) -> Option<Mode>
 fn ask(s: &[u8]) -> Option<Event>
     ensures { result ≡ read_ask s.now }
 {
-    let Some((task, behind)) = field(s) else {
-        return None;
-    };
-    let Some((resource, last)) = field(behind) else {
-        return None;
-    };
-    let Some(mode) = last_mode(last) else {
-        return None;
-    };
+    let (task, behind) = read_field(s)?;
+    let (resource, last) = read_field(behind)?;
+    let mode = last_mode(last)?;
     Some(Event::Ask {
         task,
         resource,
@@ -83,17 +45,11 @@ fn form(letter: u8, rest: &[u8]) -> Option<Event>
     ensures { result ≡ read_form letter rest.now }
 {
     match letter as char {
-        'N' => Some(Event::Release(one_number(rest)?)),
+        'N' => Some(Event::Release(read_last(rest)?)),
         'A' => ask(rest),
-        'G' => Some(Event::Give(one_number(rest)?)),
-        'F' => Some(Event::Finish(one_number(rest)?)),
-        'K' => {
-            if at_newline(rest) {
-                Some(Event::Tick)
-            } else {
-                None
-            }
-        }
+        'G' => Some(Event::Give(read_last(rest)?)),
+        'F' => Some(Event::Finish(read_last(rest)?)),
+        'K' => is_newline(rest).then_some(Event::Tick),
         _ => None,
     }
 }
@@ -102,10 +58,8 @@ fn form(letter: u8, rest: &[u8]) -> Option<Event>
 fn parse(line: &[u8]) -> Option<Event>
     ensures { result ≡ read_event line.now }
 {
-    match line {
-        [letter, rest @ ..] => form(*letter, rest),
-        _ => None,
-    }
+    let (letter, rest) = line.split_first()?;
+    form(*letter, rest)
 }
 
 impl Event {

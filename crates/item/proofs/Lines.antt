@@ -18,7 +18,7 @@ read_back (Length t r n) small =
     ap read_second (reads_back t small.0 _ refl) ∙ (ap (read_third t) (reads_back r small.1 _ refl) ∙ ap (last_number (λ m. Length t r m)) (reads_back n small.2 (10 ∷ []) refl))
 
 -- a field that was read, written, is the bytes it was read from
-abbrev FieldOf : List ℕ → Option (ℕ × List ℕ) → Type 0
+abbrev pub FieldOf : List ℕ → Option (ℕ × List ℕ) → Type 0
 FieldOf bs None = Unit {0}
 FieldOf bs (Some p) = (bs ≡ 44 ∷ (decimal p.0 ++ p.1)) × (p.0 < 100000)
 
@@ -26,11 +26,11 @@ behind_comma : (b : ℕ) (bs : List ℕ) (o : Option (ℕ × List ℕ)) → b �
 behind_comma b bs None e w = tt
 behind_comma b bs (Some p) e w = let text = w.0 in ((cc), w.1)
 
-field_of : (bs : List ℕ) → FieldOf bs (read_field bs)
+pub field_of : (bs : List ℕ) → FieldOf bs (read_field bs)
 field_of [] = tt
 field_of (b ∷ bs) = cond_both (eqb b 44) (read_number bs) None (FieldOf (b ∷ bs)) (λ e. behind_comma b bs (read_number bs) (eqb-true b 44 e) (is_written bs)) (λ e. tt)
 
-newline_alone : (bs : List ℕ) → is_newline bs ≡ true → bs ≡ 10 ∷ []
+pub newline_alone : (bs : List ℕ) → is_newline bs ≡ true → bs ≡ 10 ∷ []
 newline_alone [] e = absurd (false≢true e)
 newline_alone (b ∷ []) e = ap (λ c. c ∷ []) (eqb-true b 10 e)
 newline_alone (b ∷ c ∷ bs) e = absurd (false≢true e)
@@ -100,7 +100,7 @@ item_line (Task g) rest small = ap (join_first 84) (ap (join_first 44) (number_l
 item_line (Length t r n) rest small =
     ap (join_first 76) (ap (join_first 44) (number_line t _ rest small.0 (ap (join_first 44) (number_line r _ rest small.1 (ap (join_first 44) (number_line n (10 ∷ []) rest small.2 refl))))))
 
-size_number : (n : ℕ) → n < 100000 → length (decimal n) ≤ 5
+pub size_number : (n : ℕ) → n < 100000 → length (decimal n) ≤ 5
 size_number n small = length-decimal-le 5 n (omega arith) (omega arith) (omega arith)
 
 -- an item's text is at most twenty bytes

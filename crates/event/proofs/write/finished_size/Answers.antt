@@ -1,5 +1,0 @@
-use Rattle.std.proofs.Common.{length-append, rules}
-use Rattle.event.proofs.write.finished_size.Goals as goal
-
-pub returns-in-Ok : goal.returns-in-Ok
-returns-in-Ok c = search (rules, length-append)

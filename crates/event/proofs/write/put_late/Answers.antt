@@ -1,9 +1,0 @@
-use Rattle.std.proofs.Common.{[], ◌∷◌, ◌++◌, codes, decimal, append_assoc, length-append, rules}
-use Rattle.text.proofs.Puts.{puts_more, puts_whole}
-use Rattle.event.proofs.write.put_late.Goals as goal
-
-pub returns-in_err-end : goal.returns-in_err-end
-returns-in_err-end c = search (rules, length-append)
-
-pub returns : goal.returns
-returns c = simp append_assoc at (puts_more c.args.out.now c.args.at (codes "no," ++ (decimal 10 ++ (44 ∷ []))) _ _ _ _ _ c.in_ok-end.ensures (puts_whole _ _ _ _ _ c.write_field.ensures))
