@@ -1,65 +1,52 @@
-ghost use Rattle.std.specs.Prelude.{◌≡◌, ◌+◌, ◌^◌, ◌<◌, ◌≤◌, true, length, is_ok, Ok, Err};
+ghost use Rattle.std.specs.Prelude.{◌≡◌, ◌+◌, ◌<◌, ◌≤◌, ◌++◌, true, cond, length, Some, None, IfSome, ◌^◌, is_ok, Ok, Err};
 ghost use Rattle.bank.specs.Questions.{knows};
 ghost use Rattle.plan.specs.Of.{plan_contents};
-ghost use Rattle.text.specs.Memory.{Writes, Lays};
-ghost use Rattle.limits.specs.Lines.{wait_limit, read_limit, line_of, limits_text};
+ghost use Rattle.text.specs.Memory.{Writes};
+ghost use Rattle.limits.specs.Lines.{wait_limit, line_of, limits_text};
 
-use crate::line::lay_line;
+use crate::line::push_line;
 use bank::meaning::Bank;
 use bank::request::Mode;
+use byte_vec::byte_vec::{ByteVec, Full};
 use plan::plan::Plan;
+use text::memory::write_bytes;
 use text::refusal::Refusal;
 
-// The wait limit of a mode that the resource knows.
-fn wait_limit<B: Bank>(plan: &Plan, bank: &B, resource: u32, mode: Mode) -> u64
-    requires { (resource < (B.Bank.told bank.now).resources) × (knows (B.Bank.told bank.now) resource mode ≡ true) }
-    ensures { result ≡ wait_limit (B.Bank.told bank.now) (plan_contents plan.now) resource mode }
-{
-    let longest = plan.longest(resource as usize).unwrap_or(0);
-    match bank.turn_limit(resource, mode) {
-        Ok(turns) => turns as u64 * longest as u64,
-        Err(_) => unreachable(),
-    }
-}
-
-// The wait limit for R, where R is known.
-fn read_limit<B: Bank>(plan: &Plan, bank: &B, resource: u32) -> Option<u64>
+// The wait limit of a mode, if the resource knows the mode.
+fn wait_limit<B: Bank>(plan: &Plan, bank: &B, resource: u32, mode: Mode) -> Option<u64>
     requires { resource < (B.Bank.told bank.now).resources }
-    ensures { result ≡ read_limit (B.Bank.told bank.now) (plan_contents plan.now) resource }
+    ensures few { IfSome result (λ n. n < 2 ^ 64) }
+    ensures value { result ≡ cond (knows (B.Bank.told bank.now) resource mode) (Some (wait_limit (B.Bank.told bank.now) (plan_contents plan.now) resource mode)) None }
 {
-    match bank.reads(resource) {
-        Ok(known) => {
-            if known {
-                Some(wait_limit(plan, bank, resource, Mode::Read))
-            } else {
-                None
-            }
-        }
-        Err(_) => unreachable(),
+    let turns = bank.turn_limit(resource, mode).ok()?;
+    let longest = plan.longest(resource as usize).unwrap_or(0);
+    Some(turns as u64 * longest as u64)
+}
+
+// The line of a resource, behind those before it.
+fn push_resource<B: Bank>(text: &mut ByteVec<1040>, plan: &Plan, bank: &B, resource: u32)
+    requires { (resource < (B.Bank.told bank.now).resources) × (length text.old + 65 ≤ 1040) }
+    ensures text { text.new ≡ text.old ++ line_of (B.Bank.told bank.now) (plan_contents plan.now) resource }
+    ensures few { length text.new ≤ length text.old + 65 }
+{
+    let write = wait_limit(plan, bank, resource, Mode::Write).unwrap_or(0);
+    let read = wait_limit(plan, bank, resource, Mode::Read);
+    match push_line(text, resource, write, read) {
+        Ok(()) => {}
+        Err(Full) => unreachable(),
     }
 }
 
-// Lays the line of a resource, and answers the place behind it.
-fn lay_resource<B: Bank>(plan: &Plan, bank: &B, out: &mut [u8], at: usize, resource: u32) -> usize
-    requires { (resource < (B.Bank.told bank.now).resources) × (at ≤ 2 ^ 40) }
-    ensures few { result ≤ at + 65 }
-    ensures lays { Lays out.old at (line_of (B.Bank.told bank.now) (plan_contents plan.now) resource) result out.new }
+// The lines of all resources.
+fn limits_of<B: Bank>(plan: &Plan, bank: &B) -> ByteVec<1040>
+    ensures text { result ≡ limits_text (B.Bank.told bank.now) (plan_contents plan.now) }
+    ensures few { length result ≤ 1040 }
 {
-    let write = wait_limit(plan, bank, resource, Mode::Write);
-    let read = read_limit(plan, bank, resource);
-    lay_line(out, at, resource as u64, write, read)
-}
-
-// Lays the lines of all resources; into no memory, they are only measured.
-fn lay_limits<B: Bank>(plan: &Plan, bank: &B, out: &mut [u8]) -> usize
-    ensures few { result ≤ 1040 }
-    ensures lays { Lays out.old 0 (limits_text (B.Bank.told bank.now) (plan_contents plan.now)) result out.new }
-{
-    let mut end = 0;
+    let mut text = ByteVec::new();
     for resource in 0..bank.resources() {
-        end = lay_resource(plan, bank, out, end, resource);
+        push_resource(&mut text, plan, bank, resource);
     }
-    end
+    text
 }
 
 /// Writes the wait limits of each resource of a bank, by the lengths of a plan, at the start of memory, and answers the
@@ -69,9 +56,5 @@ pub fn write_limits<B: Bank>(plan: &Plan, bank: &B, out: &mut [u8]) -> Result<us
     ensures few { elim result [ Ok n ↦ n ≤ 1040 | Err why ↦ Unit {0} ] }
     ensures writes { Writes out.old 0 (limits_text (B.Bank.told bank.now) (plan_contents plan.now)) result out.new }
 {
-    let mut none: [u8; 0] = [];
-    if out.len() < lay_limits(plan, bank, &mut none) {
-        return Err(Refusal::Memory);
-    }
-    Ok(lay_limits(plan, bank, out))
+    write_bytes(out, 0, limits_of(plan, bank).as_slice())
 }

@@ -1,74 +1,31 @@
-ghost use Rattle.std.specs.Prelude.{◌≡◌, ◌+◌, ◌^◌, ◌≤◌, length};
-ghost use Rattle.text.specs.Memory.{Puts, Lays};
+ghost use Rattle.std.specs.Prelude.{◌≤◌, length};
+ghost use Rattle.byte_vec.specs.Bytes.{Pushes};
 ghost use Rattle.limits.specs.Lines.{read_field, limit_line};
 
-use text::memory::write_bytes;
-use text::number::{number_size, write_field};
-use text::refusal::Refusal;
+use byte_vec::byte_vec::{ByteVec, Full};
+use text::number::push_field;
 
 // The last field of a line and its newline.
-fn put_read(out: &mut [u8], at: usize, read: Option<u64>) -> Result<usize, Refusal>
-    ensures { Puts out.old at (read_field read) result out.new }
+fn push_read(text: &mut ByteVec<1040>, read: Option<u64>) -> Result<(), Full>
+    ensures { Pushes 1040 text.old (read_field read) result text.new }
 {
     match read {
-        Some(n) => write_field(out, at, n, b"\n"),
-        None => write_bytes(out, at, b"-\n"),
+        Some(n) => push_field(text, n, b"\n"),
+        None => text.extend_from_slice(b"-\n"),
     }
 }
 
-// A line, as far as it fits.
-fn put_line(
-    out: &mut [u8],
-    at: usize,
-    resource: u64,
+// A line, as far as there is room.
+pub(crate) fn push_line(
+    text: &mut ByteVec<1040>,
+    resource: u32,
     write: u64,
     read: Option<u64>,
-) -> Result<usize, Refusal>
-    ensures { Puts out.old at (limit_line resource write read) result out.new }
+) -> Result<(), Full>
+    ensures { Pushes 1040 text.old (limit_line resource write read) result text.new }
 {
-    let first = write_bytes(out, at, b"B,")?;
-    let second = write_field(out, first, resource, b",")?;
-    let third = write_field(out, second, write, b",")?;
-    put_read(out, third, read)
-}
-
-// How many bytes the last field and the newline are.
-fn read_size(read: Option<u64>) -> usize
-    ensures size { result ≡ length (read_field read) }
-    ensures few { result ≤ 21 }
-{
-    match read {
-        Some(n) => number_size(n) + 1,
-        None => 2,
-    }
-}
-
-// How many bytes a line has.
-fn line_size(resource: u64, write: u64, read: Option<u64>) -> usize
-    ensures size { result ≡ length (limit_line resource write read) }
-    ensures few { result ≤ 65 }
-{
-    4 + number_size(resource) + number_size(write) + read_size(read)
-}
-
-// Lays a line, and answers the place behind it.
-pub(crate) fn lay_line(
-    out: &mut [u8],
-    at: usize,
-    resource: u64,
-    write: u64,
-    read: Option<u64>,
-) -> usize
-    requires { at ≤ 2 ^ 40 }
-    ensures few { result ≤ at + 65 }
-    ensures lays { Lays out.old at (limit_line resource write read) result out.new }
-{
-    let size = line_size(resource, write, read);
-    if out.len() < at + size {
-        return at + size;
-    }
-    match put_line(out, at, resource, write, read) {
-        Ok(end) => end,
-        Err(_) => unreachable(),
-    }
+    text.extend_from_slice(b"B,")?;
+    push_field(text, resource as u64, b",")?;
+    push_field(text, write, b",")?;
+    push_read(text, read)
 }
