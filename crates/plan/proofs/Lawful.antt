@@ -1,8 +1,7 @@
 -- What a sealed plan says keeps the limits.
-use Rattle.std.proofs.Common.{◌≡◌, ℕ, ◌+◌, ◌/◌, ◌%◌, ◌<◌, ◌≤◌, true, ltb, List, length, get_or, take, sum, zero-add, arith}
+use Rattle.std.proofs.Common.{◌≡◌, ℕ, ◌+◌, ◌/◌, ◌%◌, ◌<◌, ◌≤◌, true, ltb, List, length, get_or, sum, zero-add, arith}
 use Rattle.std.specs.List.{AllByRecursion}
 use Rattle.std.proofs.ByRecursion.{All-from_get_or}
-use Rattle.std.proofs.lemmas.List.{get_or-take, length-take-le}
 use Rattle.std.proofs.lemmas.Bool.{and_from, lt-ltb, le-leb}
 use Rattle.plan.specs.Adding.{within, in_limits, complete}
 use Rattle.plan.specs.Contents.{Contents, processors, resource_count, length_item}
@@ -10,7 +9,6 @@ use Rattle.plan.specs.Limits.{Between}
 use Rattle.plan.specs.Of.{placed, contents_of, plan_contents}
 use Rattle.plan.specs.declared.plan.Plan.{Plan}
 use Rattle.plan.specs.declared.tables.Tables.{Tables}
-use Rattle.plan.proofs.Counts.{cluster_count_lem, slot_count_lem, task_count_lem}
 use Rattle.plan.proofs.Grid.{Rising, declared_rising, declared_all, declared_few}
 use Rattle.plan.proofs.Rows.{processors_few}
 
@@ -26,41 +24,27 @@ pub record Lawful (c : Contents) : Type 0 where
   pub few_lengths : length c.lengths ≤ 1024
   pub rising : Rising c.lengths
 
--- from each used entry of a table to its row
-row_all : (P : ℕ → Type 0) (low high : ℕ) (xs : List ℕ) (n : ℕ) → n ≤ length xs → Between low high xs n → ((x : ℕ) → low ≤ x → x < high → P x) → AllByRecursion P (take n xs)
-row_all P low high xs n l b f =
-    All-from_get_or P (take n xs) 0
-    (λ i h.
-    let lt : i < n = omega (arith, length-take-le n xs l) in
-    let o = b i lt in
-    rw (get_or-take n xs i 0 lt) (f (get_or xs i 0) o.0 o.1))
+-- from each entry of a table to all
+row_all : (P : ℕ → Type 0) (low high : ℕ) (xs : List ℕ) → Between low high xs → ((x : ℕ) → low ≤ x → x < high → P x) → AllByRecursion P xs
+row_all P low high xs b f = All-from_get_or P xs 0 (λ i l. let o = b i l in f (get_or xs i 0) o.0 o.1)
 
-limits_at : (t : Tables) (k n : ℕ) → 0 < n → n ≤ 10000 → k / 16 < t.task_count → k % 16 < t.slot_count + t.reader_writers → in_limits (contents_of t) (length_item (placed k n)) ≡ true
-limits_at t k n some few task resource =
-    let a : k / 16 < length (contents_of t).tasks = omega (arith, task_count_lem t) in
-    let b : k % 16 < resource_count (contents_of t) = omega (arith, slot_count_lem t) in
-    and_from _ _ (lt-ltb _ _ a) (and_from _ _ (lt-ltb _ _ b) (and_from _ _ (le-leb 1 n (omega arith)) (le-leb n 10000 few)))
+limits_at : (t : Tables) (k n : ℕ) → 0 < n → n ≤ 10000 → k / 16 < length t.tasks → k % 16 < length t.slots + t.reader_writers → in_limits (contents_of t) (length_item (placed k n)) ≡ true
+limits_at t k n some few task resource = and_from _ _ (lt-ltb _ _ task) (and_from _ _ (lt-ltb _ _ resource) (and_from _ _ (le-leb 1 n (omega arith)) (le-leb n 10000 few)))
 
 pub lawful : (t : Tables) → Lawful (contents_of t)
 lawful t =
-    let few = processors_few t.clusters t.cluster_count t.clusters_held t.clusters_sized in
     record {
-      clusters = row_all _ 1 9 t.clusters t.cluster_count (omega arith) t.clusters_sized (λ x a b. and_from _ _ (le-leb 1 x a) (le-leb x 8 (omega arith)));
-      few_clusters = omega (arith, cluster_count_lem t);
-      few_processors = few;
-      slots = row_all _ 1 (sum (take t.cluster_count t.clusters) + 1) t.slots t.slot_count (omega arith) t.slots_sized (λ x a b. and_from _ _ (le-leb 1 x a) (le-leb x _ (omega arith)));
-      few_resources = omega (arith, slot_count_lem t);
-      tasks = row_all _ 0 t.cluster_count t.tasks t.task_count (omega arith) t.tasks_placed (λ x a b. lt-ltb x _ (omega (arith, cluster_count_lem t)));
-      few_tasks = omega (arith, task_count_lem t);
+      clusters = row_all _ 1 9 t.clusters t.clusters_sized (λ x a b. and_from _ _ (le-leb 1 x a) (le-leb x 8 (omega arith)));
+      few_clusters = t.few_clusters;
+      few_processors = processors_few t.clusters t.few_clusters t.clusters_sized;
+      slots = row_all _ 1 (sum t.clusters + 1) t.slots t.slots_sized (λ x a b. and_from _ _ (le-leb 1 x a) (le-leb x _ (omega arith)));
+      few_resources = t.resources_held;
+      tasks = row_all _ 0 (length t.clusters) t.tasks t.tasks_placed (λ x a b. lt-ltb x _ b);
+      few_tasks = t.few_tasks;
       lengths = declared_all (λ d. in_limits (contents_of t) (length_item d) ≡ true) 0 t.lengths (λ j some. let o = t.lengths_declared j in let e : 0 + j ≡ j = zero-add j in rw e (limits_at t j (get_or t.lengths j 0) some o.0 (o.1 some).0 (o.1 some).1));
       few_lengths = omega (arith, declared_few 0 t.lengths);
       rising = declared_rising 0 t.lengths;
     }
 
 pub plan_complete : (p : Plan) → complete (plan_contents p) ≡ true
-plan_complete p =
-    let t : Tables = p.tables in
-    let a : 0 < length (contents_of t).clusters = omega (arith, cluster_count_lem t) in
-    let b : 0 < resource_count (contents_of t) = omega (arith, slot_count_lem t) in
-    let d : 0 < length (contents_of t).tasks = omega (arith, task_count_lem t) in
-    and_from _ _ (lt-ltb 0 _ a) (and_from _ _ (lt-ltb 0 _ b) (lt-ltb 0 _ d))
+plan_complete p = and_from _ _ (lt-ltb 0 _ p.has_cluster) (and_from _ _ (lt-ltb 0 _ p.has_resource) (lt-ltb 0 _ p.has_task))

@@ -1,5 +1,4 @@
 pub mod Adding
-pub mod Counts
 pub mod Grid
 pub mod Lawful
 pub mod Rows

@@ -5,9 +5,9 @@ use Rattle.std.specs.Prelude.{◌≡◌, ℕ, ◌-◌, ◌/◌, ◌%◌, ◌<◌
 abbrev pub Holds : ℕ → List ℕ → ℕ → Type 0
 Holds size xs n = (length xs ≡ size) × (n ≤ size) × ((k : ℕ) → n ≤ k → slice_index xs k ≡ 0)
 
--- each of the n used entries lies from `low` to below `high`
-abbrev pub Between : ℕ → ℕ → List ℕ → ℕ → Type 0
-Between low high xs n = (k : ℕ) → k < n → (low ≤ slice_index xs k) × (slice_index xs k < high)
+-- each entry lies from `low` to below `high`
+abbrev pub Between : ℕ → ℕ → List ℕ → Type 0
+Between low high xs = (k : ℕ) → k < length xs → (low ≤ slice_index xs k) × (slice_index xs k < high)
 
 -- the lengths lie in a table with place 16 t + r for task t at resource r, where 0 is none declared:
 -- each is at most 10,000 ticks, and at a task and a resource that exist

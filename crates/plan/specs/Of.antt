@@ -1,5 +1,5 @@
 -- What the tables of a draft, and of a plan, say.
-use Rattle.std.specs.Prelude.{ℕ, ◌+◌, ◌/◌, ◌%◌, cond, List, [], ◌∷◌, take, ◌==◌}
+use Rattle.std.specs.Prelude.{ℕ, ◌+◌, ◌/◌, ◌%◌, cond, List, [], ◌∷◌, ◌==◌}
 use Rattle.plan.specs.Contents.{Declared, Contents}
 use Rattle.plan.specs.declared.plan.Plan.{Plan}
 use Rattle.plan.specs.declared.tables.Tables.{Tables}
@@ -14,7 +14,7 @@ declared k [] = []
 declared k (n ∷ ns) = cond (n == 0) (declared (k + 1) ns) (placed k n ∷ declared (k + 1) ns)
 
 abbrev pub contents_of : Tables → Contents
-contents_of t = record { clusters = take t.cluster_count t.clusters; slots = take t.slot_count t.slots; reader_writers = t.reader_writers; tasks = take t.task_count t.tasks; lengths = declared 0 t.lengths }
+contents_of t = record { clusters = t.clusters; slots = t.slots; reader_writers = t.reader_writers; tasks = t.tasks; lengths = declared 0 t.lengths }
 
 abbrev pub plan_contents : Plan → Contents
 plan_contents p = contents_of p.tables

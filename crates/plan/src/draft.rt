@@ -71,9 +71,9 @@ impl Draft {
     pub fn seal(self, tables: &Tables, into: &mut Plan) -> Result<(), (Draft, Refused)>
         ensures { Seals self tables.now into.old result into.new }
     {
-        if tables.cluster_count == 0
-            || tables.slot_count + tables.reader_writers == 0
-            || tables.task_count == 0
+        if tables.clusters.len() == 0
+            || tables.slots.len() + tables.reader_writers == 0
+            || tables.tasks.len() == 0
         {
             let line = self.lines.saturating_add(1);
             return Err((

@@ -1,4 +1,4 @@
-ghost use Rattle.std.specs.Prelude.{◌+◌, ◌<◌};
+ghost use Rattle.std.specs.Prelude.{◌+◌, ◌<◌, length};
 
 use crate::tables::Tables;
 
@@ -6,9 +6,9 @@ use crate::tables::Tables;
 #[derive(Clone, Copy)]
 pub struct Plan {
     pub(crate) tables: Tables,
-    ghost has_cluster: { 0 < tables.cluster_count },
-    ghost has_resource: { 0 < tables.slot_count + tables.reader_writers },
-    ghost has_task: { 0 < tables.task_count },
+    ghost has_cluster: { 0 < length tables.clusters },
+    ghost has_resource: { 0 < length tables.slots + tables.reader_writers },
+    ghost has_task: { 0 < length tables.tasks },
 }
 
 pub mod ask;

@@ -1,4 +1,4 @@
-ghost use Rattle.std.specs.Prelude.{◌≡◌, ◌<◌, ◌≤◌, length, take};
+ghost use Rattle.std.specs.Prelude.{◌≡◌, ◌<◌, length};
 ghost use Rattle.plan.specs.Contents.{smallest, processors, resource_count, entry_at, resource_at, length_at, longest_at, longest_of};
 ghost use Rattle.plan.specs.Of.{contents_of, plan_contents};
 
@@ -6,23 +6,18 @@ use crate::plan::Plan;
 use crate::resource::Resource;
 use crate::tables::Tables;
 
-// The entry at a place of a table with `used` entries, if there is one.
-fn entry(table: &[u8], used: usize, place: usize) -> Option<u8>
-    requires { used ≤ length table.now }
-    ensures { result ≡ entry_at (take used table.now) place }
+// The entry at a place of a table, if there is one.
+fn entry(table: &[u8], place: usize) -> Option<u8>
+    ensures { result ≡ entry_at table.now place }
 {
-    if place < used {
-        Some(table[place])
-    } else {
-        None
-    }
+    table.get(place).copied()
 }
 
 // The length that a task declares at a resource, if any.
 fn declared_length(tables: &Tables, task: usize, resource: usize) -> Option<u16>
     ensures { result ≡ length_at (contents_of tables.now) task resource }
 {
-    if task >= tables.task_count || resource >= tables.slot_count + tables.reader_writers {
+    if task >= tables.tasks.len() || resource >= tables.slots.len() + tables.reader_writers {
         return None;
     }
     let ticks = tables.lengths[task * 16 + resource];
@@ -35,7 +30,7 @@ fn longest_length(tables: &Tables, resource: usize) -> u16
     ensures { result ≡ longest_at (contents_of tables.now) resource }
 {
     let mut longest: u16 = 0;
-    for task in 0..tables.task_count {
+    for task in 0..tables.tasks.len() {
         longest = longest.max(tables.lengths[task * 16 + resource]);
     }
     longest
@@ -66,14 +61,14 @@ impl Plan {
     pub fn clusters(&self) -> usize
         ensures { result ≡ length (plan_contents self.now).clusters }
     {
-        self.tables.cluster_count
+        self.tables.clusters.len()
     }
 
     /// The processors of a cluster, if it exists.
     pub fn processors(&self, cluster: usize) -> Option<u8>
         ensures { result ≡ entry_at (plan_contents self.now).clusters cluster }
     {
-        entry(&self.tables.clusters, self.tables.cluster_count, cluster)
+        entry(self.tables.clusters.as_slice(), cluster)
     }
 
     /// The processors of all clusters together.
@@ -87,17 +82,17 @@ impl Plan {
     pub fn resources(&self) -> usize
         ensures { result ≡ resource_count (plan_contents self.now) }
     {
-        self.tables.slot_count + self.tables.reader_writers
+        self.tables.slots.len() + self.tables.reader_writers
     }
 
     /// The kind of a resource, if it exists.
     pub fn resource(&self, resource: usize) -> Option<Resource>
         ensures { result ≡ resource_at (plan_contents self.now) resource }
     {
-        match entry(&self.tables.slots, self.tables.slot_count, resource) {
+        match entry(self.tables.slots.as_slice(), resource) {
             Some(k) => Some(Resource::Slots(k)),
             None => {
-                if resource < self.tables.slot_count + self.tables.reader_writers {
+                if resource < self.tables.slots.len() + self.tables.reader_writers {
                     Some(Resource::ReaderWriter)
                 } else {
                     None
@@ -110,14 +105,14 @@ impl Plan {
     pub fn tasks(&self) -> usize
         ensures { result ≡ length (plan_contents self.now).tasks }
     {
-        self.tables.task_count
+        self.tables.tasks.len()
     }
 
     /// The cluster of a task, if it exists.
     pub fn cluster_of(&self, task: usize) -> Option<u8>
         ensures { result ≡ entry_at (plan_contents self.now).tasks task }
     {
-        entry(&self.tables.tasks, self.tables.task_count, task)
+        entry(self.tables.tasks.as_slice(), task)
     }
 
     /// The length that a task declares at a resource, if any.
@@ -131,7 +126,7 @@ impl Plan {
     pub fn longest(&self, resource: usize) -> Option<u16>
         ensures { result ≡ longest_of (plan_contents self.now) resource }
     {
-        if resource >= self.tables.slot_count + self.tables.reader_writers {
+        if resource >= self.tables.slots.len() + self.tables.reader_writers {
             return None;
         }
         Some(longest_length(&self.tables, resource))

@@ -1,15 +1,25 @@
-ghost use Rattle.std.specs.Prelude.{◌≡◌, ◌+◌, ◌*◌, ◌<◌, ◌≤◌, true, [], replicate, Some, None, Ok, Err};
+ghost use Rattle.std.specs.Prelude.{◌≡◌, ◌+◌, ◌*◌, ◌<◌, ◌≤◌, [], length, sum, replicate, Some, None, Ok, Err};
 ghost use Rattle.item.specs.declared.item.Item.TheVariants.{Cluster as ClusterItem, Slots as SlotsItem, ReaderWriter as ReaderWriterItem, Task as TaskItem, Length as LengthItem};
 ghost use Rattle.text.specs.Questions.{first_no};
 ghost use Rattle.text.specs.Refusals.{number};
 ghost use Rattle.plan.specs.Adding.{empty, none, below, above, added, in_order, in_limits, has_room, item_questions};
 ghost use Rattle.plan.specs.Contents.{processors};
 ghost use Rattle.plan.specs.Drafts.{TakesLine};
+ghost use Rattle.plan.specs.Limits.{Between};
 ghost use Rattle.plan.specs.Of.{placed, declared, contents_of};
 
 use crate::tables::Tables;
+use byte_vec::byte_vec::ByteVec;
 use item::item::Item;
 use text::refusal::Refusal;
+
+// The sum of at most eight numbers.
+fn sum(numbers: &[u8]) -> u32
+    requires { length numbers.now ≤ 8 }
+    ensures { result ≡ sum numbers.now }
+{
+    numbers.iter().map(|n| *n as u32).sum()
+}
 
 // Whether the length at a place stands below a task and a resource.
 fn is_below(place: u32, task: u32, resource: u32) -> bool
@@ -25,13 +35,10 @@ impl Tables {
         ensures { contents_of result ≡ record { clusters = []; slots = []; reader_writers = 0; tasks = []; lengths = declared 0 lengths } }
     {
         Tables {
-            clusters: [0; 8],
-            cluster_count: 0,
-            slots: [0; 16],
-            slot_count: 0,
+            clusters: ByteVec::new(),
+            slots: ByteVec::new(),
             reader_writers: 0,
-            tasks: [0; 64],
-            task_count: 0,
+            tasks: ByteVec::new(),
             lengths,
             lengths_end: 0,
         }
@@ -48,11 +55,7 @@ impl Tables {
     pub(crate) fn processors(&self) -> u32
         ensures { result ≡ processors (contents_of self.now) }
     {
-        let mut m: u32 = 0;
-        for g in 0..self.cluster_count {
-            m += self.clusters[g] as u32;
-        }
-        m
+        sum(self.clusters.as_slice())
     }
 
     // Whether no length is declared.
@@ -76,12 +79,14 @@ impl Tables {
         ensures { result ≡ in_order (contents_of self.now) item }
     {
         match item {
-            Item::Cluster(_) => self.slot_count == 0
+            Item::Cluster(_) => self.slots.len() == 0
                 && self.reader_writers == 0
-                && self.task_count == 0
+                && self.tasks.len() == 0
                 && self.no_lengths(),
-            Item::Slots(_) => self.reader_writers == 0 && self.task_count == 0 && self.no_lengths(),
-            Item::ReaderWriter => self.task_count == 0 && self.no_lengths(),
+            Item::Slots(_) => self.reader_writers == 0
+                && self.tasks.len() == 0
+                && self.no_lengths(),
+            Item::ReaderWriter => self.tasks.len() == 0 && self.no_lengths(),
             Item::Task(_) => self.no_lengths(),
             Item::Length {
                 task,
@@ -95,19 +100,18 @@ impl Tables {
         ensures { result ≡ in_limits (contents_of self.now) item }
     {
         match item {
-            Item::Cluster(c) => 1 <= c && c <= 8,
-            Item::Slots(k) => 1 <= k && k <= self.processors(),
+            Item::Cluster(c) => (1..=8).contains(&c),
+            Item::Slots(k) => (1..=self.processors()).contains(&k),
             Item::ReaderWriter => true,
-            Item::Task(g) => (g as usize) < self.cluster_count,
+            Item::Task(g) => (g as usize) < self.clusters.len(),
             Item::Length {
                 task,
                 resource,
                 ticks,
             } => {
-                (task as usize) < self.task_count
-                    && (resource as usize) < self.slot_count + self.reader_writers
-                    && 1 <= ticks
-                    && ticks <= 10000
+                (task as usize) < self.tasks.len()
+                    && (resource as usize) < self.slots.len() + self.reader_writers
+                    && (1..=10000).contains(&ticks)
             }
         }
     }
@@ -116,10 +120,9 @@ impl Tables {
         ensures { result ≡ has_room (contents_of self.now) item }
     {
         match item {
-            Item::Cluster(_) => self.cluster_count < 8,
-            Item::Slots(_) => self.slot_count + self.reader_writers < 16,
-            Item::ReaderWriter => self.slot_count + self.reader_writers < 16,
-            Item::Task(_) => self.task_count < 64,
+            Item::Cluster(_) => self.clusters.len() < 8,
+            Item::Slots(_) | Item::ReaderWriter => self.slots.len() + self.reader_writers < 16,
+            Item::Task(_) => self.tasks.len() < 64,
             Item::Length {
                 task: _,
                 resource: _,
@@ -128,55 +131,52 @@ impl Tables {
         }
     }
 
-    // The first question answered no.
-    fn judge(&self, item: Item) -> Option<Refusal>
-        ensures { first_no (item_questions (contents_of self.now) item) ≡ elim result [ None ↦ None | Some why ↦ Some (number why) ] }
+    // Whether an item may be added, or the first question answered no.
+    fn judge(&self, item: Item) -> Result<(), Refusal>
+        ensures { first_no (item_questions (contents_of self.now) item) ≡ elim result [ Ok done ↦ None | Err why ↦ Some (number why) ] }
     {
         if !self.in_order(item) {
-            return Some(Refusal::Order);
+            return Err(Refusal::Order);
         }
         if !self.in_limits(item) {
-            return Some(Refusal::Limits);
+            return Err(Refusal::Limits);
         }
         if !self.has_room(item) {
-            return Some(Refusal::Full);
+            return Err(Refusal::Full);
         }
-        None
+        Ok(())
     }
 
     pub(crate) fn store_cluster(&mut self, c: u8)
-        requires { (1 ≤ c) × ((c ≤ 8) × ((self.old.cluster_count < 8) × (self.old.slot_count ≡ 0))) }
+        requires { (1 ≤ c) × ((c ≤ 8) × ((length self.old.clusters < 8) × (length self.old.slots ≡ 0))) }
         ensures { contents_of self.new ≡ added (contents_of self.old) (ClusterItem c) }
     {
-        self.clusters[self.cluster_count] = c;
-        self.cluster_count += 1;
+        self.clusters.push(c).unwrap();
     }
 
     pub(crate) fn store_slots(&mut self, k: u8)
-        requires { (1 ≤ k) × ((k ≤ processors (contents_of self.old)) × (self.old.slot_count + self.old.reader_writers < 16)) }
+        requires { (1 ≤ k) × ((k ≤ processors (contents_of self.old)) × (length self.old.slots + self.old.reader_writers < 16)) }
         ensures { contents_of self.new ≡ added (contents_of self.old) (SlotsItem k) }
     {
-        self.slots[self.slot_count] = k;
-        self.slot_count += 1;
+        self.slots.push(k).unwrap();
     }
 
     fn store_reader_writer(&mut self)
-        requires { self.old.slot_count + self.old.reader_writers < 16 }
+        requires { length self.old.slots + self.old.reader_writers < 16 }
         ensures { contents_of self.new ≡ added (contents_of self.old) ReaderWriterItem }
     {
         self.reader_writers += 1;
     }
 
     pub(crate) fn store_task(&mut self, g: u8)
-        requires { (g < self.old.cluster_count) × (self.old.task_count < 64) }
+        requires { (g < length self.old.clusters) × (length self.old.tasks < 64) }
         ensures { contents_of self.new ≡ added (contents_of self.old) (TaskItem g) }
     {
-        self.tasks[self.task_count] = g;
-        self.task_count += 1;
+        self.tasks.push(g).unwrap();
     }
 
     fn store_length(&mut self, task: usize, resource: usize, ticks: u16)
-        requires { (task < self.old.task_count) × ((resource < self.old.slot_count + self.old.reader_writers) × ((1 ≤ ticks) × ((ticks ≤ 10000) × (self.old.lengths_end ≤ task * 16 + resource)))) }
+        requires { (task < length self.old.tasks) × ((resource < length self.old.slots + self.old.reader_writers) × ((1 ≤ ticks) × ((ticks ≤ 10000) × (self.old.lengths_end ≤ task * 16 + resource)))) }
         ensures { contents_of self.new ≡ added (contents_of self.old) (LengthItem task resource ticks) }
     {
         let place = task * 16 + resource;
@@ -206,15 +206,9 @@ impl Tables {
     pub(crate) fn take_line(&mut self, line: &[u8]) -> Result<(), Refusal>
         ensures { TakesLine line.now self.old result self.new }
     {
-        match Item::read(line) {
-            Some(item) => match self.judge(item) {
-                Some(why) => Err(why),
-                None => {
-                    self.store(item);
-                    Ok(())
-                }
-            },
-            None => Err(Refusal::Form),
-        }
+        let item = Item::read(line).ok_or(Refusal::Form)?;
+        self.judge(item)?;
+        self.store(item);
+        Ok(())
     }
 }

@@ -1,14 +1,14 @@
-use Rattle.std.proofs.Common.{◌≡◌, ℕ, ◌+◌, ◌*◌, ◌≤◌, eqb, ◌⊎◌, get_or, None, sym, ◌∙◌, inl, inr, ⊎_elim, arith}
+use Rattle.std.proofs.Common.{◌≡◌, ℕ, ◌+◌, ◌*◌, ◌≤◌, eqb, ◌⊎◌, get_or, length, None, sym, ◌∙◌, inl, inr, ⊎_elim, arith}
 use Rattle.std.proofs.lemmas.Bool.{cases_lt, cases_eq, cond-true, cond-false, eq-eqb, ne_eqb}
 use Rattle.plan.specs.Contents.{length_at}
 use Rattle.plan.specs.Of.{contents_of}
 use Rattle.plan.specs.declared.tables.Tables.{Tables}
 use Rattle.plan.proofs.Grid.{length_held, length_none}
 use Rattle.plan.proofs.plan.ask.declared_length.Goals as goal
-use Rattle.plan.proofs.plan.ask.declared_length.Goals.{then-task-tables-via-then-task-tables, then-task-tables-via-else-task-tables+then-resource-tables}
+use Rattle.plan.proofs.plan.ask.declared_length.Goals.{then-task-len-via-then-task-len, then-task-len-via-else-task-len+then-resource-len}
 
 -- none is declared for a task or a resource that does not exist
-outside : (t : Tables) (task resource : ℕ) → (t.task_count ≤ task) ⊎ (t.slot_count + t.reader_writers ≤ resource) → None ≡ length_at (contents_of t) task resource
+outside : (t : Tables) (task resource : ℕ) → (length t.tasks ≤ task) ⊎ (length t.slots + t.reader_writers ≤ resource) → None ≡ length_at (contents_of t) task resource
 outside t task resource far =
     ⊎_elim
     (λ l.
@@ -18,12 +18,12 @@ outside t task resource far =
     (λ h. sym (length_none 0 t.lengths task resource h))
     (cases_lt resource 16)
 
-pub returns-then-task-tables : goal.returns-then-task-tables
-returns-then-task-tables c =
+pub returns-then-task-len : goal.returns-then-task-len
+returns-then-task-len c =
     let t = c.args.tables.now in
-    elim c.then-task-tables.branch [
-      | then-task-tables-via-then-task-tables w ↦ outside t c.args.task c.args.resource (inl w.if-task-tables.true)
-      | then-task-tables-via-else-task-tables+then-resource-tables w ↦ outside t c.args.task c.args.resource (inr w.if-resource-tables.true)
+    elim c.then-task-len.branch [
+      | then-task-len-via-then-task-len w ↦ outside t c.args.task c.args.resource (inl (omega (arith, w.if-task-len.true, c.len.ensures.value)))
+      | then-task-len-via-else-task-len+then-resource-len w ↦ outside t c.args.task c.args.resource (inr (omega (arith, w.if-resource-len.true, w.len-else-task-len.ensures.value)))
     ]
 
 pub returns-then-ticks-eq0 : goal.returns-then-ticks-eq0

@@ -1,5 +1,4 @@
-use Rattle.std.proofs.Common.{◌≡◌, ◌≤◌, length, take, None, subst, arith}
-use Rattle.std.proofs.lemmas.List.{length-take-le}
+use Rattle.std.proofs.Common.{◌≡◌, ◌≤◌, None, subst, arith}
 use Rattle.std.proofs.lemmas.Bool.Decides.{nat_tests}
 use Rattle.item.specs.declared.item.Item.TheVariants.{Length}
 use Rattle.text.specs.Questions.{first_no}
@@ -14,7 +13,7 @@ use Rattle.plan.proofs.tables.Tables.store.Goals as goal
 pub overflow_cast-k : goal.overflow_cast-k
 overflow_cast-k c =
     let t = c.args.self.now in
-    let few = processors_few t.clusters t.cluster_count t.clusters_held t.clusters_sized in
+    let few = processors_few t.clusters t.few_clusters t.clusters_sized in
     let k : c.in-Slots.k ≤ processors (contents_of t) = grind (arith, nat_tests) in
     omega arith
 
@@ -24,9 +23,7 @@ store_length-requires c =
     let task = c.in-Length.task in
     let resource = c.in-Length.resource in
     let p = passes (contents_of t) (Length task resource c.in-Length.ticks) (subst (λ i. first_no (item_questions (contents_of t) i) ≡ None) c.in-Length.is c.requires) in
-    let limits = p.1 in
-    let tasks : length (take t.task_count t.tasks) ≡ t.task_count = length-take-le _ _ (omega arith) in
-    let slots : length (take t.slot_count t.slots) ≡ t.slot_count = length-take-le _ _ (omega arith) in (
+    let limits = p.1 in (
       grind (arith, nat_tests),
       (
         grind (arith, nat_tests),

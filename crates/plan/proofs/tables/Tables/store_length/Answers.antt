@@ -1,4 +1,4 @@
-use Rattle.std.proofs.Common.{◌≡◌, ◌+◌, ◌-◌, ◌*◌, ◌<◌, ◌≢◌, [], ◌∷◌, ◌++◌, length, get_or, take, set, ap, ◌∙◌, ⊎_elim, arith, get_or-set_other, get_or-set_same}
+use Rattle.std.proofs.Common.{◌≡◌, ◌+◌, ◌-◌, ◌*◌, ◌<◌, ◌≢◌, [], ◌∷◌, ◌++◌, length, get_or, set, ap, ◌∙◌, ⊎_elim, arith, get_or-set_other, get_or-set_same}
 use Rattle.std.proofs.lemmas.List.{length-set}
 use Rattle.std.proofs.lemmas.Bool.{cases_eq}
 use Rattle.plan.specs.Of.{declared}
@@ -13,12 +13,11 @@ invariant_of-self c =
     let n = c.args.ticks in
     let l : p < length xs = omega arith in
     let same : get_or (set xs p n) p 0 ≡ n = get_or-set_same xs p n 0 l in record {
-      clusters_held = t.clusters_held;
+      few_clusters = t.few_clusters;
       clusters_sized = t.clusters_sized;
-      slots_held = t.slots_held;
       slots_sized = t.slots_sized;
       resources_held = t.resources_held;
-      tasks_held = t.tasks_held;
+      few_tasks = t.few_tasks;
       tasks_placed = t.tasks_placed;
       lengths_held = (length-set xs p n ∙ t.lengths_held.0, omega arith, λ k g. let ne : k ≢ p = omega arith in get_or-set_other xs p k n 0 ne ∙ t.lengths_held.2 k (omega arith));
       lengths_declared = λ k. ⊎_elim
@@ -34,4 +33,4 @@ returns c =
     let p = c.args.task * 16 + c.args.resource in
     let e = declared_set 0 t.lengths p c.args.ticks (omega arith) (λ j g. t.lengths_held.2 j (omega arith)) (omega arith) in
     let f = placed_at c.args.task c.args.resource c.args.ticks (omega arith) in
-    ap (λ ds. record { clusters = take t.cluster_count t.clusters; slots = take t.slot_count t.slots; reader_writers = t.reader_writers; tasks = take t.task_count t.tasks; lengths = ds }) (e ∙ ap (λ d. declared 0 t.lengths ++ (d ∷ [])) f)
+    ap (λ ds. record { clusters = t.clusters; slots = t.slots; reader_writers = t.reader_writers; tasks = t.tasks; lengths = ds }) (e ∙ ap (λ d. declared 0 t.lengths ++ (d ∷ [])) f)
