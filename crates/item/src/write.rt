@@ -50,9 +50,9 @@ fn push(line: &mut ByteVec<40>, item: Item) -> Result<(), Full>
     }
 }
 
-// The line of an item.
 fn line(item: Item) -> ByteVec<40>
-    ensures { result ≡ item_text item }
+    ensures text { result ≡ item_text item }
+    ensures few { length (item_text item) ≤ 35 }
 {
     let mut line = ByteVec::new();
     match push(&mut line, item) {
@@ -68,11 +68,19 @@ fn write_line(item: Item, out: &mut [u8], at: usize) -> Result<usize, Refusal>
 }
 
 impl Item {
+    /// The line of an item, with its newline.
+    pub fn line(self) -> ByteVec<40>
+        ensures text { result ≡ item_text self }
+        ensures few { length result ≤ 35 }
+    {
+        line(self)
+    }
+
     /// How many bytes an item is written in.
     pub fn size(self) -> usize
         ensures { result ≡ length (item_text self) }
     {
-        line(self).len()
+        self.line().len()
     }
 
     /// Writes an item's line at a place, and answers the place behind it.

@@ -1,104 +1,62 @@
-ghost use Rattle.std.specs.Prelude.{◌≡◌, ◌+◌, ◌^◌, ◌<◌, length, slice_index_or};
+ghost use Rattle.std.specs.Prelude.{◌≡◌, ℕ, ◌+◌, ◌*◌, ◌^◌, ◌<◌, ◌≤◌, length, map, replicate};
 ghost use Rattle.item.specs.Lines.{item_text};
+ghost use Rattle.item.specs.declared.item.Item.{Item as Line};
 ghost use Rattle.item.specs.declared.item.Item.TheVariants.{ReaderWriter as ReaderWriterItem};
-ghost use Rattle.plan.specs.Contents.{resource_count};
 ghost use Rattle.plan.specs.Of.{plan_contents};
 ghost use Rattle.text.specs.Memory.{Writes, Lays};
 ghost use Rattle.plan_text.specs.Texts.{row_text, plan_text, ReadsBack};
-ghost use Rattle.plan_text.specs.Writing.{cluster_items, resource_items, kind_item, task_items, length_items, length_text};
+ghost use Rattle.plan_text.specs.Writing.{Makes, length_items, length_text};
 
 use item::item::Item;
 use plan::plan::Plan;
-use plan::resource::Resource;
+use text::memory::write_bytes;
 use text::refusal::Refusal;
 
 // Lays the line of an item, and answers the place behind it.
 fn lay_item(out: &mut [u8], at: usize, item: Item) -> usize
-    requires { at + length (item_text item) < 2 ^ 64 }
-    ensures { Lays out.old at (item_text item) result out.new }
+    requires { at + 35 < 2 ^ 64 }
+    ensures few { result ≤ at + 35 }
+    ensures lays { Lays out.old at (item_text item) result out.new }
 {
-    match item.write(out, at) {
+    let line = item.line();
+    match write_bytes(out, at, line.as_slice()) {
         Ok(end) => end,
-        Err(_) => at + item.size(),
+        Err(_) => at + line.len(),
     }
 }
 
-fn cluster_item(plan: &Plan, cluster: usize) -> Item
-    requires { cluster < length (plan_contents plan.now).clusters }
-    ensures { result ≡ slice_index_or (cluster_items (plan_contents plan.now)) cluster ReaderWriterItem }
-{
-    match plan.processors(cluster) {
-        Some(c) => Item::Cluster(c as u32),
-        None => unreachable(),
-    }
-}
-
-fn kind_item(kind: Resource) -> Item
-    ensures { result ≡ kind_item kind }
-{
-    match kind {
-        Resource::Slots(k) => Item::Slots(k as u32),
-        Resource::ReaderWriter => Item::ReaderWriter,
-    }
-}
-
-fn resource_item(plan: &Plan, resource: usize) -> Item
-    requires { resource < resource_count (plan_contents plan.now) }
-    ensures { result ≡ slice_index_or (resource_items (plan_contents plan.now)) resource ReaderWriterItem }
-{
-    match plan.resource(resource) {
-        Some(kind) => kind_item(kind),
-        None => unreachable(),
-    }
-}
-
-fn task_item(plan: &Plan, task: usize) -> Item
-    requires { task < length (plan_contents plan.now).tasks }
-    ensures { result ≡ slice_index_or (task_items (plan_contents plan.now)) task ReaderWriterItem }
-{
-    match plan.cluster_of(task) {
-        Some(g) => Item::Task(g as u32),
-        None => unreachable(),
-    }
-}
-
-fn lay_clusters(plan: &Plan, out: &mut [u8], at: usize) -> usize
-    requires { at + length (row_text (cluster_items (plan_contents plan.now))) < 2 ^ 64 }
-    ensures { Lays out.old at (row_text (cluster_items (plan_contents plan.now))) result out.new }
+// Lays the lines of the items that the numbers of a row make.
+fn lay_row<F: Fn(u32) -> Item>(out: &mut [u8], at: usize, row: &[u8], make: F) -> usize
+    requires callable { F.IsAlwaysCallable make }
+    requires room { at + 35 * length row.now < 2 ^ 64 }
+    ensures few { result ≤ at + 35 * length row.now }
+    ensures lays { (item : ℕ → Line) → Makes (F.post make) item → Lays out.old at (row_text (map item row.now)) result out.new }
 {
     let mut end = at;
-    for cluster in 0..plan.clusters() {
-        end = lay_item(out, end, cluster_item(plan, cluster));
+    for n in row {
+        end = lay_item(out, end, make(*n as u32));
     }
     end
 }
 
-fn lay_resources(plan: &Plan, out: &mut [u8], at: usize) -> usize
-    requires { at + length (row_text (resource_items (plan_contents plan.now))) < 2 ^ 64 }
-    ensures { Lays out.old at (row_text (resource_items (plan_contents plan.now))) result out.new }
+// Lays the lines of so many reader-writer resources.
+fn lay_reader_writers(out: &mut [u8], at: usize, count: usize) -> usize
+    requires { at + 35 * count < 2 ^ 64 }
+    ensures few { result ≤ at + 35 * count }
+    ensures lays { Lays out.old at (row_text (replicate count ReaderWriterItem)) result out.new }
 {
     let mut end = at;
-    for resource in 0..plan.resources() {
-        end = lay_item(out, end, resource_item(plan, resource));
-    }
-    end
-}
-
-fn lay_tasks(plan: &Plan, out: &mut [u8], at: usize) -> usize
-    requires { at + length (row_text (task_items (plan_contents plan.now))) < 2 ^ 64 }
-    ensures { Lays out.old at (row_text (task_items (plan_contents plan.now))) result out.new }
-{
-    let mut end = at;
-    for task in 0..plan.tasks() {
-        end = lay_item(out, end, task_item(plan, task));
+    for _ in 0..count {
+        end = lay_item(out, end, Item::ReaderWriter);
     }
     end
 }
 
 // The length at a place of the table, task 16 times over and then resource, if one is declared.
 fn lay_length(plan: &Plan, out: &mut [u8], at: usize, place: usize) -> usize
-    requires { (place < 1024) × (at + length (length_text (plan_contents plan.now) place) < 2 ^ 64) }
-    ensures { Lays out.old at (length_text (plan_contents plan.now) place) result out.new }
+    requires { (place < 1024) × (at + 35 < 2 ^ 64) }
+    ensures few { result ≤ at + 35 }
+    ensures lays { Lays out.old at (length_text (plan_contents plan.now) place) result out.new }
 {
     let task = place / 16;
     let resource = place % 16;
@@ -118,7 +76,7 @@ fn lay_length(plan: &Plan, out: &mut [u8], at: usize, place: usize) -> usize
 
 // The lengths by task, then by resource.
 fn lay_lengths(plan: &Plan, out: &mut [u8], at: usize) -> usize
-    requires { at + length (row_text (length_items (plan_contents plan.now))) < 2 ^ 64 }
+    requires { at ≤ 2 ^ 40 }
     ensures { Lays out.old at (row_text (length_items (plan_contents plan.now))) result out.new }
 {
     let mut end = at;
@@ -132,9 +90,10 @@ fn lay_lengths(plan: &Plan, out: &mut [u8], at: usize) -> usize
 fn lay_plan(plan: &Plan, out: &mut [u8]) -> usize
     ensures { Lays out.old 0 (plan_text (plan_contents plan.now)) result out.new }
 {
-    let tables = lay_clusters(plan, out, 0);
-    let tasks = lay_resources(plan, out, tables);
-    let lengths = lay_tasks(plan, out, tasks);
+    let slots = lay_row(out, 0, plan.cluster_processors(), |c| Item::Cluster(c));
+    let writers = lay_row(out, slots, plan.slot_holders(), |k| Item::Slots(k));
+    let tasks = lay_reader_writers(out, writers, plan.reader_writers());
+    let lengths = lay_row(out, tasks, plan.task_clusters(), |g| Item::Task(g));
     lay_lengths(plan, out, lengths)
 }
 

@@ -1,4 +1,4 @@
-ghost use Rattle.std.specs.Prelude.{◌≡◌, ◌<◌, length};
+ghost use Rattle.std.specs.Prelude.{◌≡◌, ◌<◌, ◌≤◌, length};
 ghost use Rattle.plan.specs.Contents.{smallest, processors, resource_count, entry_at, resource_at, length_at, longest_at, longest_of};
 ghost use Rattle.plan.specs.Of.{contents_of, plan_contents};
 
@@ -76,6 +76,38 @@ impl Plan {
         ensures { result ≡ processors (plan_contents self.now) }
     {
         self.tables.processors()
+    }
+
+    /// The processors of each cluster.
+    pub fn cluster_processors(&self) -> &[u8]
+        ensures value { result.now ≡ (plan_contents self.now).clusters }
+        ensures few { length result.now ≤ 8 }
+    {
+        self.tables.clusters.as_slice()
+    }
+
+    /// The holders of each slot resource.
+    pub fn slot_holders(&self) -> &[u8]
+        ensures value { result.now ≡ (plan_contents self.now).slots }
+        ensures few { length result.now ≤ 16 }
+    {
+        self.tables.slots.as_slice()
+    }
+
+    /// How many reader-writer resources there are; they follow the slot resources.
+    pub fn reader_writers(&self) -> usize
+        ensures value { result ≡ (plan_contents self.now).reader_writers }
+        ensures few { result ≤ 16 }
+    {
+        self.tables.reader_writers
+    }
+
+    /// The cluster of each task.
+    pub fn task_clusters(&self) -> &[u8]
+        ensures value { result.now ≡ (plan_contents self.now).tasks }
+        ensures few { length result.now ≤ 64 }
+    {
+        self.tables.tasks.as_slice()
     }
 
     /// How many resources there are.
