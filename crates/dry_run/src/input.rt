@@ -1,12 +1,9 @@
-ghost use Rattle.std.specs.Prelude.{◌≡◌, ◌≤◌, length};
+use byte_vec::byte_vec::ByteVec;
 
 /// The first 16,384 bytes of an input.
 #[derive(Clone, Copy)]
 pub struct Input {
-    text: [u8; 16384],
-    size: usize,
-    ghost long: { length text ≡ 16384 },
-    ghost few: { size ≤ 16384 },
+    text: ByteVec<16384>,
 }
 
 pub mod feed;

@@ -2,5 +2,7 @@
 #![tactic(auto)]
 
 pub mod answer;
+pub mod banks;
 pub mod input;
 pub mod plan_limits;
+pub mod refused;

@@ -11,7 +11,7 @@ use Rattle.event.specs.declared.event.Event.TheVariants.{Release, Ask, Give, Fin
 use Rattle.event.proofs.Lines.{is_line_of, long_none}
 use Rattle.text.specs.Lines.{join_first, lines_of}
 use Rattle.event_run.specs.Fed.{line_begins}
-use Rattle.event_run.specs.Said.{before_empty, plan_part, part_verdict, verdict}
+use Rattle.dry_run.specs.Said.{before_empty, plan_part, part_verdict, verdict}
 
 -- THE EMPTY LINE
 

@@ -14,7 +14,8 @@ use Rattle.rules.specs.Questions.{all_below, equal_bool, fits_at, fits, slots_in
 use Rattle.rules.specs.Runs.{Fitting, Unfit}
 use Rattle.slots.specs.Lines.{requests as slots_requests}
 use Rattle.slots.specs.Of.{holders_of, told_of as slots_told_of, active_of as slots_active_of}
-use Rattle.event_run.specs.Made.{Banks, meaning, BanksOf}
+use Rattle.dry_run.specs.Banks.{Banks, BanksOf}
+use Rattle.event_run.specs.Made.{meaning}
 
 all_pass : (test : ℕ → Bool) (n : ℕ) → ((r : ℕ) → r < n → test r ≡ true) → all_below test n ≡ true
 all_pass test zero pass = refl

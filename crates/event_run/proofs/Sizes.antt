@@ -6,7 +6,7 @@ use Rattle.text.specs.Memory.{Puts}
 use Rattle.text.specs.Refusals.{number}
 use Rattle.text.specs.declared.refusal.Refusal.{Refusal}
 use Rattle.text.specs.declared.refusal.Refusal.TheVariants.{Form, Order, Limits, Full, Incomplete, NoEnd, Memory}
-use Rattle.event_run.specs.Said.{refused_text}
+use Rattle.dry_run.specs.Said.{refused_text}
 
 few_questions : (why : Refusal) → number why < 2 ^ 64
 few_questions Form = omega arith

@@ -18,7 +18,8 @@ use Rattle.event_run.specs.Fed.{kept, setup, snapshot, Planning, Replaying, FedI
 use Rattle.event_run.specs.Steps.{LineDone, reserve_in, reserve}
 use Rattle.event_run.specs.Made.{meaning, MadeFrom}
 use Rattle.event_run.specs.Plays.{Replays, none, unreadable, answered, Plays, PrintedBy, Printed}
-use Rattle.event_run.specs.Said.{plan_part, part_verdict, verdict, behind_plan, refused_text, plan_told}
+use Rattle.dry_run.specs.Said.{plan_part, part_verdict, verdict, refused_text, plan_told}
+use Rattle.event_run.specs.Said.{behind_plan}
 use Rattle.event_run.specs.declared.run.DryRun.{DryRun}
 use Rattle.event_run.specs.declared.run.Phase.{Phase}
 use Rattle.event_run.specs.declared.run.Phase.TheVariants.{Plan, Events, Over}

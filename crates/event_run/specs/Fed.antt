@@ -12,7 +12,7 @@ use Rattle.text.specs.Refusals.{number}
 use Rattle.text.specs.declared.refusal.Refusal.{Refusal}
 use Rattle.event_run.specs.Made.{meaning}
 use Rattle.event_run.specs.Plays.{Plays, Printed}
-use Rattle.event_run.specs.Said.{before_empty, plan_part}
+use Rattle.dry_run.specs.Said.{before_empty, plan_part}
 use Rattle.event_run.specs.declared.run.DryRun.{DryRun}
 use Rattle.event_run.specs.declared.run.Phase.{Phase}
 use Rattle.event_run.specs.declared.run.Phase.TheVariants.{Plan, Events, Over}

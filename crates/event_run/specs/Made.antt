@@ -1,5 +1,6 @@
 -- The controller of a plan, over slots paired with readers and writers.
 use Rattle.std.specs.Prelude.{◌≡◌, ℕ, []}
+use Rattle.dry_run.specs.Banks.{Banks, BanksOf}
 use Rattle.bank.specs.declared.meaning.Bank.{Ghosts}
 use Rattle.pair.specs.Pairs.{pair_told, pair_active}
 use Rattle.pair.specs.declared.pair.Pair.{Pair}
@@ -13,18 +14,9 @@ use Rattle.rules.specs.Runs.{Fitting, Starts}
 use Rattle.slots.specs.Of.{told_of as slots_told_of, active_of as slots_active_of, MadeFrom as SlotsOf}
 use Rattle.slots.specs.declared.slots.Slots.{Slots}
 
-abbrev pub Banks : Type 0
-Banks = Pair Slots ReadersWriters
-
 -- what the pair tells, and its active requests
 abbrev pub meaning : Ghosts Banks
 meaning = record { told = λ b. pair_told (slots_told_of b.first) (writers_told_of b.second); active = λ b. pair_active (slots_told_of b.first) (slots_active_of b.first) (writers_active_of b.second) }
-
--- the banks of a plan, with nobody active
-pub record BanksOf (c : Contents) (b : Banks) : Type 0 where
-  pub slots : SlotsOf c b.first
-  pub told : writers_told_of b.second ≡ writers_told c.reader_writers (processors c)
-  pub free : (r : ℕ) → entries_of b.second.lines r ≡ []
 
 -- a controller that was just made from a plan over its banks: it has the plan's tasks and resources
 pub record MadeFrom (c : Contents) (a : Setup) (s : Snapshot) : Type 0 where

@@ -13,7 +13,8 @@ use Rattle.rules.specs.Promises.{Lawful}
 use Rattle.rules.specs.Runs.{Runs, moment}
 use Rattle.text.specs.Lines.{lines_of}
 use Rattle.event_run.specs.Made.{MadeFrom}
-use Rattle.event_run.specs.Said.{plan_told, refused_text, behind_plan, verdict}
+use Rattle.dry_run.specs.Said.{plan_told, refused_text, verdict}
+use Rattle.event_run.specs.Said.{behind_plan}
 
 -- the lines so far, the history of their calls, and what was printed of them. A line that is an event is a call,
 -- and it is printed with the answer; a line that is none is printed as unreadable and is no call

@@ -1,48 +1,8 @@
--- The plan of an input, and what is printed of it.
-use Rattle.std.specs.Prelude.{ℕ, ◌+◌, Bool, true, false, cond, List, [], ◌∷◌, ◌++◌, length, take, drop, is_some, Some, None, codes, decimal, Option, ◌==◌, slice_index}
-use Rattle.std.specs.Option.{unwrap_or, option_map}
-use Rattle.bank.specs.Questions.{Told}
-use Rattle.pair.specs.Pairs.{pair_told}
-use Rattle.plan.specs.Contents.{Contents, processors}
-use Rattle.plan_text.specs.Texts.{Verdict, decide, read_text}
-use Rattle.readers_writers.specs.Lines.{turn_limit as reader_writer_limit}
-use Rattle.slots.specs.Lines.{turn_limit as slot_limit}
-use Rattle.text.specs.Questions.{Question, ask, first_no}
-
--- the bytes before the first empty line, if there is one: a newline where a line begins
-abbrev pub before_empty : Bool → List ℕ → Option (List ℕ)
-before_empty begins [] = None
-before_empty begins (b ∷ bs) = cond (b == 10) (cond begins (Some []) (option_map (λ rest. b ∷ rest) (before_empty true bs))) (option_map (λ rest. b ∷ rest) (before_empty false bs))
-
--- the plan's text in an input: an empty line ends it within the first 16,384 bytes
-abbrev pub plan_part : List ℕ → Option (List ℕ)
-plan_part input = before_empty true (take 16384 input)
-
--- is there such a plan? It is put before any line, as line 0
-abbrev pub part_questions : Option (List ℕ) → List Question
-part_questions part = ask 22 (is_some part) ∷ []
-
--- what a plan's part of an input is read as, and what an input is
-abbrev pub part_verdict : Option (List ℕ) → Verdict
-part_verdict part = decide (first_no (part_questions part)) 0 (read_text (unwrap_or part []))
-
-abbrev pub verdict : List ℕ → Verdict
-verdict input = part_verdict (plan_part input)
+-- What follows the plan in an input.
+use Rattle.std.specs.Prelude.{ℕ, ◌+◌, List, [], length, drop}
+use Rattle.std.specs.Option.{unwrap_or}
+use Rattle.dry_run.specs.Said.{plan_part}
 
 -- the bytes behind the empty line
 abbrev pub behind_plan : List ℕ → List ℕ
 behind_plan input = drop (length (unwrap_or (plan_part input) []) + 1) input
-
--- the line of a refused plan
-abbrev pub refused_text : ℕ → ℕ → List ℕ
-refused_text question line = codes "plan,no," ++ (decimal question ++ (44 ∷ (decimal line ++ (10 ∷ []))))
-
--- what the slots of a plan, its readers and writers, and the pair of both tell
-abbrev pub slots_told : Contents → Told
-slots_told c = record { resources = length c.slots; seats = processors c; slots = λ r. slice_index c.slots r; reads = λ _. false; limit = λ r _. slot_limit (processors c) (slice_index c.slots r) }
-
-abbrev pub readers_writers_told : Contents → Told
-readers_writers_told c = record { resources = c.reader_writers; seats = processors c; slots = λ _. 1; reads = λ _. true; limit = λ _ m. reader_writer_limit (processors c) m }
-
-abbrev pub plan_told : Contents → Told
-plan_told c = pair_told (slots_told c) (readers_writers_told c)

@@ -9,7 +9,8 @@ use Rattle.rules.specs.Answers.{Event as Call}
 use Rattle.rules.specs.Jobs.{Setup, Snapshot}
 use Rattle.rules.specs.Runs.{Follows}
 use Rattle.event_run.specs.Fed.{Laid}
-use Rattle.event_run.specs.Made.{Banks, meaning}
+use Rattle.dry_run.specs.Banks.{Banks}
+use Rattle.event_run.specs.Made.{meaning}
 use Rattle.event_run.specs.declared.run.DryRun.{DryRun}
 use Rattle.event_run.specs.declared.run.Phase.{Phase}
 use Rattle.event_run.specs.declared.run.Phase.TheVariants.{Plan, Events, Over}

@@ -2,7 +2,7 @@ ghost use Rattle.std.specs.Prelude.{◌≡◌, ℕ, ◌-◌, ◌≤◌, min, Lis
 ghost use Rattle.dry_run.specs.Inputs.{kept, Fed};
 
 use crate::input::Input;
-use text::memory::write_bytes;
+use byte_vec::byte_vec::ByteVec;
 
 // How many of n bytes there is room for behind those that are kept.
 fn room(size: usize, n: usize) -> usize
@@ -18,8 +18,7 @@ impl Input {
         ensures { Fed result [] }
     {
         Input {
-            text: [0; 16384],
-            size: 0,
+            text: ByteVec::new(),
         }
     }
 
@@ -27,10 +26,8 @@ impl Input {
     fn keep(&mut self, chunk: &[u8])
         ensures { kept self.new ≡ take 16384 (kept self.old ++ chunk.now) }
     {
-        let taken = room(self.size, chunk.len());
-        if let Ok(end) = write_bytes(&mut self.text, self.size, &chunk[0..taken]) {
-            self.size = end;
-        }
+        let taken = room(self.text.len(), chunk.len());
+        let _ = self.text.extend_from_slice(&chunk[..taken]);
     }
 
     /// Takes the next bytes of the input, however it is cut into pieces.

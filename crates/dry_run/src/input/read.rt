@@ -14,8 +14,8 @@ fn plan_size(text: &[u8]) -> Option<usize>
     ensures within { elim result [ None ↦ Unit {0} | Some n ↦ n ≤ length text.now ] }
 {
     let mut begins = true;
-    for at in 0..text.len() {
-        let newline = text[at] == b'\n';
+    for (at, b) in text.iter().enumerate() {
+        let newline = *b == b'\n';
         if begins && newline {
             return Some(at);
         }
@@ -65,7 +65,7 @@ impl Input {
         ensures kept { result.now ≡ kept self.now }
         ensures few { length result.now ≤ 16384 }
     {
-        &self.text[0..self.size]
+        self.text.as_slice()
     }
 
     /// Reads the plan of the input into the place of a plan, or refuses it and leaves the place as it was.

@@ -6,14 +6,14 @@ ghost use Rattle.text.specs.Refusals.{number};
 ghost use Rattle.event_run.specs.Fed.{kept, setup, snapshot, Laid, Takes};
 ghost use Rattle.event_run.specs.Steps.{reserve, line_size, LineTaken};
 ghost use Rattle.event_run.specs.Made.{MadeFrom};
-ghost use Rattle.event_run.specs.Said.{plan_told, refused_text};
+ghost use Rattle.dry_run.specs.Said.{plan_told, refused_text};
 ghost use Rattle.event_run.specs.declared.run.Phase.TheVariants.{Plan as InPlan, Events as InEvents, Over as IsOver};
 
 use crate::line::answer_line;
 use crate::refused::lay_refused;
-use crate::run::new::banks_of;
 use crate::run::{DryRun, Phase};
 use controller::controller::Controller;
+use dry_run::banks::banks_of;
 use event::event::Event;
 use limits::limits::write_limits;
 use plan::draft::Refused;

@@ -11,9 +11,9 @@ use Rattle.dry_run.proofs.plan_limits.write_plan_limits.Goals as goal
 pub returns : goal.returns
 returns c =
     let said = plan_contents c.args.plan.now in
-    let slots = c.new.result in
-    let writers = c.new-2.result in
-    let text = pair_text (told_of slots) (slots_told said) (writers_told_of writers) (readers_writers_told said) (slots_same said slots c.new.ensures) (readers_writers_same said writers c.new-2.ensures.told) said in
+    let slots = c.banks_of.result.first in
+    let writers = c.banks_of.result.second in
+    let text = pair_text (told_of slots) (slots_told said) (writers_told_of writers) (readers_writers_told said) (slots_same said slots c.banks_of.ensures.slots) (readers_writers_same said writers c.banks_of.ensures.told) said in
     record {
       fits = c.write_limits.ensures.fits;
       writes = subst (λ bytes. Writes c.args.out.now 0 bytes c.write_limits.result c.write_limits.new.out) text c.write_limits.ensures.writes;

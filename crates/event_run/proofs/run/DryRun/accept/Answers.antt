@@ -6,10 +6,10 @@ use Rattle.readers_writers.specs.Banks.{told_of as writers_told_of}
 use Rattle.slots.specs.Of.{told_of as slots_told_of}
 use Rattle.text.specs.Memory.{overlay}
 use Rattle.event_run.specs.Made.{meaning}
-use Rattle.event_run.specs.Said.{plan_told, slots_told, readers_writers_told}
-use Rattle.event_run.proofs.SameTold.{pair_text}
+use Rattle.dry_run.specs.Said.{plan_told, slots_told, readers_writers_told}
+use Rattle.dry_run.proofs.SameTold.{pair_text}
 use Rattle.event_run.proofs.Fits.{made_fitting}
-use Rattle.event_run.proofs.Planned.{slots_same, readers_writers_same}
+use Rattle.dry_run.proofs.Planned.{slots_same, readers_writers_same}
 use Rattle.event_run.proofs.run.DryRun.accept.Goals as goal
 
 pub returns : goal.returns

@@ -3,7 +3,7 @@ use Rattle.limits.specs.Lines.{limits_text}
 use Rattle.plan.specs.Of.{plan_contents}
 use Rattle.plan_text.specs.Texts.{read_text}
 use Rattle.text.specs.Refusals.{number}
-use Rattle.event_run.specs.Said.{plan_told, refused_text}
+use Rattle.dry_run.specs.Said.{plan_told, refused_text}
 use Rattle.event_run.specs.declared.run.Phase.TheVariants.{Plan, Events, Over}
 use Rattle.event_run.proofs.Steps.{reserve_in_lem, plan_accepted, plan_refused}
 use Rattle.event_run.proofs.run.DryRun.close_plan.Goals as goal

@@ -1,6 +1,6 @@
 use Rattle.std.proofs.Common.{[], arith}
 use Rattle.event.specs.Answers.{unreadable_text}
-use Rattle.event_run.specs.Said.{refused_text}
+use Rattle.dry_run.specs.Said.{refused_text}
 use Rattle.event_run.proofs.Steps.{laid_none, end_plan, end_whole, end_line, end_over}
 use Rattle.event_run.proofs.run.DryRun.last.Goals as goal
 

@@ -1,7 +1,7 @@
 use Rattle.std.proofs.Common.{◌≡◌, ℕ, eqb, [], ◌∷◌, sym, refl, ◌∙◌, subst, arith}
 use Rattle.std.proofs.lemmas.Bool.{and_parts, eqb-true}
 use Rattle.event_run.specs.Fed.{Takes}
-use Rattle.event_run.specs.Said.{refused_text}
+use Rattle.dry_run.specs.Said.{refused_text}
 use Rattle.event_run.specs.declared.run.Phase.TheVariants.{Plan, Over}
 use Rattle.event_run.proofs.Steps.{reserve_in_lem, laid_none, plan_keeps, plan_full}
 use Rattle.event_run.proofs.run.DryRun.take_plan_byte.Goals as goal

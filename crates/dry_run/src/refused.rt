@@ -1,0 +1,36 @@
+ghost use Rattle.std.specs.Prelude.{◌≡◌, ◌≤◌, length};
+ghost use Rattle.byte_vec.specs.Bytes.{Pushes};
+ghost use Rattle.text.specs.Refusals.{number};
+ghost use Rattle.dry_run.specs.Said.{refused_text};
+
+use byte_vec::byte_vec::{ByteVec, Full};
+use plan::draft::Refused;
+use text::number::push_field;
+
+// The line of a refused plan, as far as there is room.
+fn push_refused(line: &mut ByteVec<64>, question: u32, at: usize) -> Result<(), Full>
+    ensures { Pushes 64 line.old (refused_text question at) result line.new }
+{
+    line.extend_from_slice(b"plan,no,")?;
+    push_field(line, question as u64, b",")?;
+    push_field(line, at as u64, b"\n")
+}
+
+fn line_of(why: Refused) -> ByteVec<64>
+    ensures text { result ≡ refused_text (number why.refusal) why.line }
+    ensures few { length result ≤ 50 }
+{
+    let mut line = ByteVec::new();
+    match push_refused(&mut line, why.refusal.number(), why.line) {
+        Ok(()) => line,
+        Err(Full) => unreachable(),
+    }
+}
+
+/// The line of a refused plan.
+pub fn refused_line(why: Refused) -> ByteVec<64>
+    ensures text { result ≡ refused_text (number why.refusal) why.line }
+    ensures few { length result ≤ 50 }
+{
+    line_of(why)
+}
