@@ -1,7 +1,8 @@
 /// How a resource is asked for.
-#[derive(Debug, Clone, Copy, PartialEq, Eq)]
+#[derive(Debug, Clone, Copy, PartialEq, Eq, Default)]
 pub enum Mode {
     /// W: to be used alone, or beside other holders as far as the resource admits.
+    #[default]
     Write,
     /// R: to be read beside other readers.
     Read,
