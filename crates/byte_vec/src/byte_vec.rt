@@ -1,0 +1,111 @@
+ghost use Rattle.std.specs.Prelude.{◌≡◌, ◌≤◌, [], ◌∷◌, length};
+ghost use Rattle.std.specs.List.{slice_get};
+ghost use Rattle.byte_vec.specs.Bytes.{Appends, Removes};
+
+use std::marker::Model;
+
+/// At most `N` bytes. The places behind them are 0.
+#[derive(Clone, Copy)]
+pub struct ByteVec<const N: usize> {
+    places: [u8; N],
+    len: usize,
+}
+
+impl<const N: usize> Model for ByteVec<N> {
+    ghost use Rattle.std.specs.Prelude.{ℕ, ◌-◌, List, ◌++◌, length, take, replicate};
+    ghost use Rattle.byte_vec.specs.Filled.{Filled, made_again};
+
+    ghost Value = { List ℕ };
+
+    ghost view = { λ v. take v.len v.places };
+
+    ghost invariant = { λ v. Filled N v.places v.len };
+
+    ghost inverse = { λ xs. record { places = xs ++ replicate (N - length xs) 0; len = length xs } };
+
+    ghost inverse_ok = { λ v h. made_again (λ ps n. record { places = ps; len = n }) N v.places v.len h };
+}
+
+/// There is no room for more.
+#[derive(Clone, Copy, Debug, PartialEq, Eq)]
+pub struct Full;
+
+impl<const N: usize> ByteVec<N> {
+    /// No bytes.
+    pub fn new() -> Self
+        ensures { result ≡ [] }
+    {
+        ByteVec {
+            places: [0; N],
+            len: 0,
+        }
+    }
+
+    /// How many bytes there are.
+    pub fn len(&self) -> usize
+        ensures value { result ≡ length self.now }
+        ensures within { result ≤ N }
+    {
+        self.as_slice().len()
+    }
+
+    /// The bytes.
+    pub fn as_slice(&self) -> &[u8]
+        ensures value { result.now ≡ self.now }
+        ensures within { length result.now ≤ N }
+    {
+        &self.places[..self.len]
+    }
+
+    fn put(&mut self, byte: u8) -> Result<(), Full>
+        ensures { Appends N self.old (byte ∷ []) result self.new }
+    {
+        if self.len == N {
+            return Err(Full);
+        }
+        self.places[self.len] = byte;
+        self.len += 1;
+        Ok(())
+    }
+
+    /// One byte more.
+    pub fn push(&mut self, byte: u8) -> Result<(), Full>
+        ensures { Appends N self.old (byte ∷ []) result self.new }
+    {
+        self.put(byte)
+    }
+
+    /// More bytes.
+    pub fn extend_from_slice(&mut self, bytes: &[u8]) -> Result<(), Full>
+        ensures { Appends N self.old bytes.now result self.new }
+    {
+        if N - self.len < bytes.len() {
+            return Err(Full);
+        }
+        let end = self.len + bytes.len();
+        let places = &mut self.places[..];
+        places[self.len..end].copy_from_slice(bytes);
+        self.len = end;
+        Ok(())
+    }
+
+    fn take_out(&mut self, place: usize) -> Option<u8>
+        ensures { Removes self.old place result self.new }
+    {
+        if place >= self.len {
+            return None;
+        }
+        let byte = self.places[place];
+        self.places.copy_within(place + 1..self.len, place);
+        self.len -= 1;
+        self.places[self.len] = 0;
+        Some(byte)
+    }
+
+    /// The byte at a place goes, if there is one; those behind it move to the front by one.
+    pub fn remove(&mut self, place: usize) -> Option<u8>
+        ensures { Removes self.old place result self.new }
+    {
+        self.take_out(place)
+    }
+}
