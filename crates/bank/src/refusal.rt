@@ -2,7 +2,7 @@ ghost use Rattle.std.specs.Prelude.{◌≡◌};
 ghost use Rattle.bank.specs.Questions.{number};
 
 /// Why a bank refuses a call. Each case has one number, that of the question answered no.
-#[derive(Clone, Copy)]
+#[derive(Debug, Clone, Copy, PartialEq, Eq)]
 pub enum Refusal {
     /// 2: the resource does not exist.
     NoResource,

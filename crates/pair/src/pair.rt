@@ -1,4 +1,5 @@
 ghost use Rattle.pair.specs.Pairs.{pair_told, pair_active};
+ghost use Rattle.pair.specs.Halves.{IsHalf};
 ghost use Rattle.pair.specs.Laws.{pair_small, pair_sound};
 
 use crate::within::enter_within;
@@ -13,6 +14,29 @@ pub struct Pair<A: Bank, B: Bank> {
     pub second: B,
 }
 
+// A resource of a pair: the bank that it is of, and its number there.
+#[derive(Clone, Copy)]
+enum Half {
+    First(u32),
+    Second(u32),
+}
+
+impl<A: Bank, B: Bank> Pair<A, B> {
+    // The bank that a resource is of.
+    fn half(&self, resource: u32) -> Result<Half, Refusal>
+        ensures { IsHalf (A.Bank.told self.now.first) (B.Bank.told self.now.second) resource result }
+    {
+        let n = self.first.resources();
+        if resource >= self.resources() {
+            Err(Refusal::NoResource)
+        } else if resource < n {
+            Ok(Half::First(resource))
+        } else {
+            Ok(Half::Second(resource - n))
+        }
+    }
+}
+
 impl<A: Bank, B: Bank> Bank for Pair<A, B> {
     ghost told = { λ s. pair_told (A.Bank.told s.first) (B.Bank.told s.second) };
 
@@ -23,110 +47,67 @@ impl<A: Bank, B: Bank> Bank for Pair<A, B> {
     ghost sound = { λ b r lt. pair_sound (A.Bank.told b.first) (B.Bank.told b.second) (A.Bank.active b.first) (B.Bank.active b.second) (A.Bank.sound b.first) (B.Bank.sound b.second) r lt };
 
     fn resources(&self) -> u32 {
-        let n = self.first.resources() + self.second.resources();
-        if n < 16 { n } else { 16 }
+        (self.first.resources() + self.second.resources()).min(16)
     }
 
     fn seats(&self) -> u32 {
-        let a = self.first.seats();
-        let b = self.second.seats();
-        if a < b { a } else { b }
+        self.first.seats().min(self.second.seats())
     }
 
     fn slots(&self, resource: u32) -> Result<u32, Refusal> {
-        if resource >= self.resources() {
-            return Err(Refusal::NoResource);
-        }
-        let n = self.first.resources();
-        if resource < n {
-            self.first.slots(resource)
-        } else {
-            self.second.slots(resource - n)
+        match self.half(resource)? {
+            Half::First(there) => self.first.slots(there),
+            Half::Second(there) => self.second.slots(there),
         }
     }
 
     fn reads(&self, resource: u32) -> Result<bool, Refusal> {
-        if resource >= self.resources() {
-            return Err(Refusal::NoResource);
-        }
-        let n = self.first.resources();
-        if resource < n {
-            self.first.reads(resource)
-        } else {
-            self.second.reads(resource - n)
+        match self.half(resource)? {
+            Half::First(there) => self.first.reads(there),
+            Half::Second(there) => self.second.reads(there),
         }
     }
 
     fn turn_limit(&self, resource: u32, mode: Mode) -> Result<u32, Refusal> {
-        if resource >= self.resources() {
-            return Err(Refusal::NoResource);
-        }
-        let n = self.first.resources();
-        if resource < n {
-            self.first.turn_limit(resource, mode)
-        } else {
-            self.second.turn_limit(resource - n, mode)
+        match self.half(resource)? {
+            Half::First(there) => self.first.turn_limit(there, mode),
+            Half::Second(there) => self.second.turn_limit(there, mode),
         }
     }
 
     fn count(&self, resource: u32) -> Result<u32, Refusal> {
-        if resource >= self.resources() {
-            return Err(Refusal::NoResource);
-        }
-        let n = self.first.resources();
-        if resource < n {
-            self.first.count(resource)
-        } else {
-            self.second.count(resource - n)
+        match self.half(resource)? {
+            Half::First(there) => self.first.count(there),
+            Half::Second(there) => self.second.count(there),
         }
     }
 
     fn request_at(&self, resource: u32, place: u32) -> Result<Option<Request>, Refusal> {
-        if resource >= self.resources() {
-            return Err(Refusal::NoResource);
-        }
-        let n = self.first.resources();
-        if resource < n {
-            self.first.request_at(resource, place)
-        } else {
-            self.second.request_at(resource - n, place)
+        match self.half(resource)? {
+            Half::First(there) => self.first.request_at(there, place),
+            Half::Second(there) => self.second.request_at(there, place),
         }
     }
 
     fn request_of(&self, resource: u32, party: u32) -> Result<Option<Request>, Refusal> {
-        if resource >= self.resources() {
-            return Err(Refusal::NoResource);
-        }
-        let n = self.first.resources();
-        if resource < n {
-            self.first.request_of(resource, party)
-        } else {
-            self.second.request_of(resource - n, party)
+        match self.half(resource)? {
+            Half::First(there) => self.first.request_of(there, party),
+            Half::Second(there) => self.second.request_of(there, party),
         }
     }
 
     fn enter(&mut self, resource: u32, party: u32, mode: Mode) -> Result<bool, Refusal> {
-        if resource >= self.resources() {
-            return Err(Refusal::NoResource);
-        }
         let seats = self.seats();
-        let n = self.first.resources();
-        if resource < n {
-            enter_within(&mut self.first, seats, resource, party, mode)
-        } else {
-            enter_within(&mut self.second, seats, resource - n, party, mode)
+        match self.half(resource)? {
+            Half::First(there) => enter_within(&mut self.first, seats, there, party, mode),
+            Half::Second(there) => enter_within(&mut self.second, seats, there, party, mode),
         }
     }
 
     fn leave(&mut self, resource: u32, party: u32) -> Result<(), Refusal> {
-        if resource >= self.resources() {
-            return Err(Refusal::NoResource);
-        }
-        let n = self.first.resources();
-        if resource < n {
-            self.first.leave(resource, party)
-        } else {
-            self.second.leave(resource - n, party)
+        match self.half(resource)? {
+            Half::First(there) => self.first.leave(there, party),
+            Half::Second(there) => self.second.leave(there, party),
         }
     }
 }

@@ -9,13 +9,11 @@ use bank::refusal::Refusal;
 use bank::request::Mode;
 
 // Whether a party is active at a resource.
+#[tactic(auto, using(crate::proofs::Requests::active_found))]
 fn is_active<B: Bank>(bank: &B, resource: u32, party: u32) -> Result<bool, Refusal>
     ensures { Tells (party_questions (B.Bank.told bank.now) resource party) (is_active party (B.Bank.active bank.now resource)) result }
 {
-    match bank.request_of(resource, party) {
-        Ok(found) => Ok(found.is_some()),
-        Err(why) => Err(why),
-    }
+    Ok(bank.request_of(resource, party)?.is_some())
 }
 
 // Enters a bank as if it had fewer seats.
@@ -31,24 +29,12 @@ pub(crate) fn enter_within<B: Bank>(
     ensures enters { Enters (with_seats seats (B.Bank.told bank.old)) resource party mode result (B.Bank.active bank.old) (B.Bank.active bank.new) }
     ensures keeps { Keeps result bank.old bank.new }
 {
-    if let Err(why) = bank.turn_limit(resource, mode) {
-        return Err(why);
+    bank.turn_limit(resource, mode)?;
+    if is_active(bank, resource, party)? {
+        return Err(Refusal::AlreadyActive);
     }
-    match is_active(bank, resource, party) {
-        Ok(active) => {
-            if active {
-                return Err(Refusal::AlreadyActive);
-            }
-        }
-        Err(why) => return Err(why),
-    }
-    match bank.count(resource) {
-        Ok(many) => {
-            if many >= seats {
-                return Err(Refusal::NoSeat);
-            }
-        }
-        Err(why) => return Err(why),
+    if bank.count(resource)? >= seats {
+        return Err(Refusal::NoSeat);
     }
     bank.enter(resource, party, mode)
 }

@@ -1,7 +1,7 @@
 -- The lines of all resources, and the questions put to a change.
-use Rattle.std.specs.Prelude.{◌≡◌, ℕ, ◌<◌, ◌≤◌, Bool, true, false, cond, not, List, [], length, get_or, Some, None, Ok, ◌≢◌, nat_eq, nat_lt, slice_index_or, slice_set, refl}
+use Rattle.std.specs.Prelude.{◌≡◌, ℕ, ◌<◌, ◌≤◌, Bool, true, false, cond, not, List, length, Some, None, Ok, ◌≢◌, nat_eq, nat_lt, slice_index_or, slice_set, refl}
 use Rattle.std.proofs.Common.{sym, ap, subst, ◌∙◌, ⊎_elim, arith}
-use Rattle.std.proofs.lemmas.List.{length-take-le, length_push, get_or-set_same, get_or-set_other}
+use Rattle.std.proofs.lemmas.List.{length_push, get_or-set_same, get_or-set_other}
 use Rattle.std.proofs.lemmas.Bool.{cases_eq, cond-true, cond-false, lt-ltb, le-ltb, not_from_true, not_from_false}
 use Rattle.std.specs.List.{AllZip}
 use Rattle.text.specs.Questions.{first_no}
@@ -12,7 +12,7 @@ use Rattle.bank.specs.declared.request.Mode.{Mode}
 use Rattle.bank.specs.declared.request.Mode.TheVariants.{Write, Read}
 use Rattle.readers_writers.specs.Lines.{some, admits, entered, left, holder_of, requests}
 use Rattle.readers_writers.specs.Kept.{good, named}
-use Rattle.readers_writers.specs.Of.{list_of, Fits, entries_of, Keeping, AllKeep, Settled}
+use Rattle.readers_writers.specs.Of.{list_of, bare, entries_of, Keeping, AllKeep, Settled}
 use Rattle.readers_writers.specs.Told.{told}
 use Rattle.readers_writers.specs.declared.entry.Entry.{Entry}
 use Rattle.readers_writers.specs.declared.line.Line.{Line}
@@ -32,47 +32,34 @@ active_entry p es = any_requests (λ a. nat_eq a.party p) (λ e. nat_eq e.party 
 holder_entry : (p : ℕ) (es : List Entry) → is_holder p (requests es) ≡ some (holder_of p) es
 holder_entry p es = any_requests _ (holder_of p) (holder_same p) _ _ 0 es
 
-pub list_length : (l : Line) → Fits l → length (list_of l) ≡ l.size
-list_length l f = length-take-le l.size l.entries (omega arith)
-
 -- a line that was entered, and one that was left, keeps what lines keep
-keeping_entered : (m p : ℕ) (k : Mode) (old new : Line) → m ≤ 64 → Keeping m old → old.size < m → p < 64 → Fits new → list_of new ≡ entered (list_of old) p k → Keeping m new
-keeping_entered m p k old new top kept room low fits e =
-    let a = list_length old (kept.0, omega arith) in
-    let b = list_length new fits in
+keeping_entered : (m p : ℕ) (k : Mode) (old new : Line) → Keeping m old → length (list_of old) < m → p < 64 → list_of new ≡ entered (list_of old) p k → Keeping m new
+keeping_entered m p k old new kept room low e =
     let n = ap length e ∙ length_push (list_of old) _ in
-    (fits.0, omega arith, subst (λ es. named es ≡ true) (sym e) (named_push (list_of old) _ kept.2 low), subst (λ es. good es ≡ true) (sym e) (good_entered (list_of old) p k kept.3))
+    (omega arith, subst (λ es. named es ≡ true) (sym e) (named_push (list_of old) _ kept.1 low), subst (λ es. good es ≡ true) (sym e) (good_entered (list_of old) p k kept.2))
 
-keeping_left : (m p : ℕ) (old new : Line) → m ≤ 64 → Keeping m old → some (holder_of p) (list_of old) ≡ true → Fits new → list_of new ≡ left (list_of old) p → Keeping m new
-keeping_left m p old new top kept s fits e =
-    let a = list_length old (kept.0, omega arith) in
-    let b = list_length new fits in
-    let k = kept_left p (list_of old) kept.2 s in
+keeping_left : (m p : ℕ) (old new : Line) → Keeping m old → some (holder_of p) (list_of old) ≡ true → list_of new ≡ left (list_of old) p → Keeping m new
+keeping_left m p old new kept s e =
+    let k = kept_left p (list_of old) kept.1 s in
     let n = ap length e in
-    (fits.0, omega arith, subst (λ es. named es ≡ true) (sym e) k.1, subst (λ es. good es ≡ true) (sym e) (good_left p (list_of old) kept.3 s))
+    (omega arith, subst (λ es. named es ≡ true) (sym e) k.1, subst (λ es. good es ≡ true) (sym e) (good_left p (list_of old) kept.2 s))
 
 module _ (lines : List Line) (r : ℕ) (new : Line) where
   pub entries_set : r < length lines → entries_of (slice_set lines r new) r ≡ list_of new
-  entries_set l = ap list_of (get_or-set_same lines r new (record { entries = []; size = 0 }) l)
+  entries_set l = ap list_of (get_or-set_same lines r new bare l)
 
   pub entries_other : (q : ℕ) → (q ≢ r) → entries_of (slice_set lines r new) q ≡ entries_of lines q
-  entries_other q ne = ap list_of (get_or-set_other lines r q new (record { entries = []; size = 0 }) ne)
+  entries_other q ne = ap list_of (get_or-set_other lines r q new bare ne)
 
   all_keep : (count m : ℕ) → r < length lines → AllKeep lines count m → Keeping m new → AllKeep (slice_set lines r new) count m
   all_keep count m l kept one q lt =
       ⊎_elim
-      (λ (e : q ≡ r). subst (λ j. Keeping m (slice_index_or (slice_set lines r new) j (record { entries = []; size = 0 }))) (sym e) (subst (Keeping m) (sym (get_or-set_same lines r new (record { entries = []; size = 0 }) l)) one))
-      (λ (ne : q ≡ r → ⊥). subst (Keeping m) (sym (get_or-set_other lines r q new (record { entries = []; size = 0 }) ne)) (kept q lt))
+      (λ (e : q ≡ r). subst (λ j. Keeping m (slice_index_or (slice_set lines r new) j bare)) (sym e) (subst (Keeping m) (sym (get_or-set_same lines r new bare l)) one))
+      (λ (ne : q ≡ r → ⊥). subst (Keeping m) (sym (get_or-set_other lines r q new bare ne)) (kept q lt))
       (cases_eq q r)
 
 pub settles : (lines : List Line) (count m : ℕ) → AllKeep lines count m → Settled lines count
-settles lines count m kept r l = good_settled (entries_of lines r) (kept r l).3
-
-fit : (lines : List Line) (count m r : ℕ) → AllKeep lines count m → m ≤ 64 → r < count → Fits (slice_index_or lines r (record { entries = []; size = 0 }))
-fit lines count m r kept top l = let k = kept r l in (k.0, omega arith)
-
-pub few_entries : (lines : List Line) (count m r : ℕ) → AllKeep lines count m → m ≤ 64 → r < count → length (entries_of lines r) ≡ (get_or lines r (record { entries = []; size = 0 })).size
-few_entries lines count m r kept top l = list_length _ (fit lines count m r kept top l)
+settles lines count m kept r l = good_settled (entries_of lines r) (kept r l).2
 
 -- the questions of enter
 module _ (c m r p : ℕ) (k : Mode) (es : List Entry) where
@@ -122,19 +109,19 @@ module _ (lines : List Line) (c m r p : ℕ) (new : Line) (a : r < c) (b : p < 6
   pub entering : (k : Mode) (h : Bool) → some (λ e. nat_eq e.party p) (entries_of lines r) ≡ false → length (entries_of lines r) < m → list_of new ≡ entered (entries_of lines r) p k → h ≡ admits (entries_of lines r) k → Enters (told c m) r p k (Ok h) (λ q. requests (entries_of lines q)) (λ q. requests (entries_of (slice_set lines r new) q))
   entering k h s room e held = (
     enter_all c m r p k (entries_of lines r) a b s room,
-    subst (λ xs. Added p k h (requests (entries_of lines r)) (requests xs)) (sym (entries_set lines r new long ∙ e)) (subst (λ x. Added p k x (requests (entries_of lines r)) (requests (entered (entries_of lines r) p k))) (sym held) (added (entries_of lines r) p k (kept r a).3)),
+    subst (λ xs. Added p k h (requests (entries_of lines r)) (requests xs)) (sym (entries_set lines r new long ∙ e)) (subst (λ x. Added p k x (requests (entries_of lines r)) (requests (entered (entries_of lines r) p k))) (sym held) (added (entries_of lines r) p k (kept r a).2)),
     λ q l ne. ap requests (entries_other lines r new q ne),
   )
 
   pub leaving : some (holder_of p) (entries_of lines r) ≡ true → list_of new ≡ left (entries_of lines r) p → Leaves (told c m) r p (Ok tt) (λ q. requests (entries_of lines q)) (λ q. requests (entries_of (slice_set lines r new) q))
   leaving s e = (
     leave_all c m r p (entries_of lines r) a b s,
-    subst (λ xs. AllZip Stays (without p (requests (entries_of lines r))) (requests xs)) (sym (entries_set lines r new long ∙ e)) (stays_left p (entries_of lines r) (kept r a).3 s),
+    subst (λ xs. AllZip Stays (without p (requests (entries_of lines r))) (requests xs)) (sym (entries_set lines r new long ∙ e)) (stays_left p (entries_of lines r) (kept r a).2 s),
     λ q l ne. ap requests (entries_other lines r new q ne),
   )
 
-  pub keep_entered : (k : Mode) → m ≤ 64 → length (entries_of lines r) < m → Fits new → list_of new ≡ entered (entries_of lines r) p k → AllKeep (slice_set lines r new) c m
-  keep_entered k top room fits e = let n = few_entries lines c m r kept top a in all_keep lines r new c m long kept (keeping_entered m p k _ new top (kept r a) (omega arith) b fits e)
+  pub keep_entered : (k : Mode) → length (entries_of lines r) < m → list_of new ≡ entered (entries_of lines r) p k → AllKeep (slice_set lines r new) c m
+  keep_entered k room e = all_keep lines r new c m long kept (keeping_entered m p k _ new (kept r a) room b e)
 
-  pub keep_left : m ≤ 64 → some (holder_of p) (entries_of lines r) ≡ true → Fits new → list_of new ≡ left (entries_of lines r) p → AllKeep (slice_set lines r new) c m
-  keep_left top s fits e = all_keep lines r new c m long kept (keeping_left m p _ new top (kept r a) s fits e)
+  pub keep_left : some (holder_of p) (entries_of lines r) ≡ true → list_of new ≡ left (entries_of lines r) p → AllKeep (slice_set lines r new) c m
+  keep_left s e = all_keep lines r new c m long kept (keeping_left m p _ new (kept r a) s e)

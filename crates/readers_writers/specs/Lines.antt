@@ -1,5 +1,6 @@
 -- A reader-writer resource: its entries in order of entry, each with its mode and whether it holds.
-use Rattle.std.specs.Prelude.{ℕ, ◌+◌, ◌-◌, ◌*◌, min, Bool, true, false, cond, not, ◌&&◌, ◌||◌, List, [], ◌∷◌, ◌++◌, ◌==◌}
+use Rattle.std.specs.Prelude.{ℕ, ◌+◌, ◌-◌, ◌*◌, min, Bool, true, false, cond, not, ◌&&◌, List, [], ◌∷◌, ◌++◌, ◌==◌}
+use Rattle.std.specs.List.{list_any}
 use Rattle.bank.specs.Lists.{is_write}
 use Rattle.bank.specs.declared.request.Mode.{Mode}
 use Rattle.bank.specs.declared.request.Mode.TheVariants.{Write, Read}
@@ -7,8 +8,7 @@ use Rattle.bank.specs.declared.request.Request.{Request}
 use Rattle.readers_writers.specs.declared.entry.Entry.{Entry}
 
 abbrev pub some : (Entry → Bool) → List Entry → Bool
-some test [] = false
-some test (e ∷ es) = test e || some test es
+some test es = list_any test es
 
 abbrev pub count_of : (Entry → Bool) → List Entry → ℕ
 count_of test [] = 0

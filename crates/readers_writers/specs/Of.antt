@@ -1,27 +1,33 @@
 -- What a line says, and what every line keeps.
-use Rattle.std.specs.Prelude.{◌≡◌, ℕ, ◌<◌, ◌≤◌, true, List, [], length, take, slice_index_or}
+use Rattle.std.specs.Prelude.{◌≡◌, ℕ, ◌<◌, ◌≤◌, true, List, [], length, Ok, Err, Result, slice_index_or}
+use Rattle.bank.specs.declared.refusal.Refusal.{Refusal}
+use Rattle.bank.specs.declared.refusal.Refusal.TheVariants.{NoResource}
 use Rattle.readers_writers.specs.Kept.{good, named, settled}
 use Rattle.readers_writers.specs.declared.entry.Entry.{Entry}
 use Rattle.readers_writers.specs.declared.line.Line.{Line}
 
--- the entries in use
+-- the entries of a line, and the line with none
 abbrev pub list_of : Line → List Entry
-list_of l = take l.size l.entries
+list_of l = l.entries.items
 
--- there is a place for each
-abbrev pub Fits : Line → Type 0
-Fits l = (length l.entries ≡ 64) × (l.size ≤ 64)
+abbrev pub bare : Line
+bare = record { entries = record { items = [] } }
 
 -- the entries of a resource
 abbrev pub entries_of : List Line → ℕ → List Entry
-entries_of lines r = list_of (slice_index_or lines r (record { entries = []; size = 0 }))
+entries_of lines r = list_of (slice_index_or lines r bare)
 
 -- each of the resources has m seats, and its entries are good and name parties
 abbrev pub Keeping : ℕ → Line → Type 0
-Keeping m l = (length l.entries ≡ 64) × (l.size ≤ m) × (named (list_of l) ≡ true) × (good (list_of l) ≡ true)
+Keeping m l = (length (list_of l) ≤ m) × (named (list_of l) ≡ true) × (good (list_of l) ≡ true)
 
 abbrev pub AllKeep : List Line → ℕ → ℕ → Type 0
-AllKeep lines count m = (r : ℕ) → r < count → Keeping m (slice_index_or lines r (record { entries = []; size = 0 }))
+AllKeep lines count m = (r : ℕ) → r < count → Keeping m (slice_index_or lines r bare)
+
+-- the place of a resource's line, if there are so many resources
+abbrev pub IsIndex : ℕ → ℕ → Result ℕ Refusal → Type 0
+IsIndex count r (Ok at) = (r < count) × (at ≡ r)
+IsIndex count r (Err why) = (count ≤ r) × (why ≡ NoResource)
 
 -- nothing waits where it could hold
 abbrev pub Settled : List Line → ℕ → Type 0

@@ -5,7 +5,6 @@ use Rattle.bank.specs.Meaning.{Small, Sound}
 use Rattle.bank.specs.declared.request.Mode.{Mode}
 use Rattle.bank.specs.declared.request.Mode.TheVariants.{Write, Read}
 use Rattle.readers_writers.specs.Banks.{told_of, active_of}
-use Rattle.readers_writers.specs.BanksLemmas.{few_entries}
 use Rattle.readers_writers.specs.Lines.{turn_limit}
 use Rattle.readers_writers.specs.Of.{entries_of}
 use Rattle.readers_writers.specs.Sound.{sound}
@@ -21,5 +20,4 @@ is_small b = record { resources = b.few; some = b.seated; seats = b.most; limits
 pub is_sound : (b : ReadersWriters) (r : ℕ) → r < b.count → Sound (told_of b) r (active_of b r)
 is_sound b r l =
     let k = b.kept r l in
-    let n = few_entries b.lines b.count b.seats r b.kept b.most l in
-    sound b.count b.seats r (entries_of b.lines r) k.3 k.2 (omega arith)
+    sound b.count b.seats r (entries_of b.lines r) k.2 k.1 k.0

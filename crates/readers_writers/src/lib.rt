@@ -2,7 +2,5 @@
 #![tactic(auto)]
 
 pub mod entry;
-mod kind;
 mod line;
 pub mod lines;
-mod rows;

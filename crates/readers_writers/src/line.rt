@@ -1,157 +1,192 @@
-ghost use Rattle.std.specs.Prelude.{◌≡◌, ◌<◌, ◌≤◌, true, length};
+ghost use Rattle.std.specs.Prelude.{◌≡◌, ◌<◌, ◌≤◌, ◌==◌, count_by, length, position, take};
 ghost use Rattle.std.specs.List.{slice_get};
 ghost use Rattle.bank.specs.Lists.{request_of};
-ghost use Rattle.readers_writers.specs.Lines.{some, admits, entered, holder_of, removed, mode_of, writer_holds, passed, left, turns, requests};
-ghost use Rattle.readers_writers.specs.Of.{list_of, Fits};
-ghost use Rattle.readers_writers.specs.Places.{is_kind};
+ghost use Rattle.readers_writers.specs.Lines.{some, admits, entered, holder_of, is_holder, is_writer, holding_writer, collected, writer_holds, reads_hold, passed, turns, requests};
+ghost use Rattle.readers_writers.specs.Of.{list_of};
+ghost use Rattle.readers_writers.specs.Places.{parted};
 
 use crate::entry::Entry;
-use crate::kind::{Kind, writes};
-use crate::rows::{close, count, place, reads_hold};
+use arrayvec::ArrayVec;
 use bank::request::{Mode, Request};
 
 /// The active requests of one resource, in order of entry.
-#[derive(Clone, Copy)]
+#[derive(Drop, Default)]
 pub struct Line {
-    pub(crate) entries: [Entry; 64],
-    pub(crate) size: usize,
+    pub(crate) entries: ArrayVec<Entry, 64>,
 }
 
 impl Line {
-    /// Whether an entry is of a kind.
-    pub(crate) fn some(&self, kind: Kind) -> bool
-        requires { Fits self.now }
-        ensures { result ≡ some (is_kind kind) (list_of self.now) }
+    /// Whether a party is active.
+    pub(crate) fn is_active(&self, party: u8) -> bool
+        ensures { result ≡ some (λ e. e.party == party) (list_of self.now) }
     {
-        place(&self.entries[..self.size], kind) < self.size
+        self.entries.iter().any(|e| e.party == party)
+    }
+
+    // Whether a writer is active.
+    fn has_writer(&self) -> bool
+        ensures { result ≡ some is_writer (list_of self.now) }
+    {
+        self.entries.iter().any(|e| e.is_writer())
+    }
+
+    // Whether somebody holds.
+    fn is_held(&self) -> bool
+        ensures { result ≡ some is_holder (list_of self.now) }
+    {
+        self.entries.iter().any(|e| e.holds)
+    }
+
+    // Whether a writer holds.
+    fn is_writing(&self) -> bool
+        ensures { result ≡ some holding_writer (list_of self.now) }
+    {
+        self.entries.iter().any(|e| e.holds && e.is_writer())
+    }
+
+    // Whether a read is collected.
+    fn has_collected(&self) -> bool
+        ensures { result ≡ some collected (list_of self.now) }
+    {
+        self.entries.iter().any(|e| !e.holds && !e.is_writer())
     }
 
     // Whether a request of this mode holds at once.
     fn admits(&self, mode: Mode) -> bool
-        requires { Fits self.now }
         ensures { result ≡ admits (list_of self.now) mode }
     {
         match mode {
-            Mode::Write => self.size == 0,
-            Mode::Read => !self.some(Kind::Writer),
+            Mode::Write => self.entries.is_empty(),
+            Mode::Read => !self.has_writer(),
         }
     }
 
     /// Adds a request, and tells whether it holds.
     pub(crate) fn enter(&mut self, party: u8, mode: Mode) -> bool
-        requires { Fits self.old × (self.old.size < 64) }
-        ensures fits { Fits self.new }
+        requires { length (list_of self.old) < 64 }
         ensures list { list_of self.new ≡ entered (list_of self.old) party mode }
         ensures holds { result ≡ admits (list_of self.old) mode }
     {
         let holds = self.admits(mode);
-        self.entries[self.size] = Entry { party, mode, holds };
-        self.size += 1;
+        self.entries.push(Entry { party, mode, holds });
         holds
     }
 
-    // Takes out the first entry of a party that holds, and tells its mode.
-    fn remove(&mut self, party: u8) -> Mode
-        requires { Fits self.old × (some (holder_of party) (list_of self.old) ≡ true) }
-        ensures fits { Fits self.new }
-        ensures list { list_of self.new ≡ removed party (list_of self.old) }
-        ensures mode { result ≡ mode_of party (list_of self.old) }
+    // The place of the first writer, if there is one.
+    fn writer(&self) -> Option<usize>
+        ensures { result ≡ position is_writer (list_of self.now) }
     {
-        let size = self.size;
-        let at = place(&self.entries[..size], Kind::HeldBy(party));
-        let mode = self.entries[at].mode;
-        close(&mut self.entries, at, size);
-        self.size = size - 1;
-        mode
+        self.entries.iter().position(|e| e.is_writer())
     }
 
     // Lets the first writer hold.
     fn writer_holds(&mut self)
-        requires { Fits self.old }
-        ensures fits { Fits self.new }
-        ensures list { list_of self.new ≡ writer_holds (list_of self.old) }
+        ensures { list_of self.new ≡ writer_holds (list_of self.old) }
     {
-        let at = place(&self.entries[..self.size], Kind::Writer);
-        if at < self.size {
-            let e = self.entries[at];
-            self.entries[at] = Entry {
-                party: e.party,
-                mode: e.mode,
-                holds: true,
-            };
+        if let Some(at) = self.writer() {
+            self.entries[at].holds = true;
         }
     }
 
     // Lets hold who may once a holder of this mode is gone.
     fn pass(&mut self, mode: Mode)
-        requires { Fits self.old }
-        ensures fits { Fits self.new }
-        ensures list { list_of self.new ≡ passed mode (list_of self.old) }
+        ensures { list_of self.new ≡ passed mode (list_of self.old) }
     {
-        if self.some(Kind::Holder) {
+        if self.is_held() {
             return;
         }
-        if writes(mode) && self.some(Kind::Collected) {
+        if mode == Mode::Write && self.has_collected() {
             reads_hold(&mut self.entries);
         } else {
             self.writer_holds();
         }
     }
 
-    /// Takes out the request of a party that holds.
-    pub(crate) fn leave(&mut self, party: u8)
-        requires { Fits self.old × (some (holder_of party) (list_of self.old) ≡ true) }
-        ensures fits { Fits self.new }
-        ensures list { list_of self.new ≡ left (list_of self.old) party }
+    /// The place of the first entry of a party that holds, if it holds.
+    pub(crate) fn holder(&self, party: u8) -> Option<usize>
+        ensures { result ≡ position (holder_of party) (list_of self.now) }
     {
-        let mode = self.remove(party);
-        self.pass(mode);
+        self.entries.iter().position(|e| e.is_held_by(party))
+    }
+
+    /// Takes out the holder at a place.
+    pub(crate) fn leave(&mut self, at: usize)
+        requires { at < length (list_of self.old) }
+        ensures { list_of self.new ≡ parted (list_of self.old) at }
+    {
+        let gone = self.entries.remove(at);
+        self.pass(gone.mode);
     }
 
     /// How many are active.
     pub(crate) fn active(&self) -> u32
-        requires { Fits self.now }
         ensures { result ≡ length (requests (list_of self.now)) }
     {
-        self.size as u32
+        self.entries.len() as u32
+    }
+
+    // How many hold.
+    fn holders(&self) -> u32
+        ensures { result ≡ count_by is_holder (list_of self.now) }
+    {
+        self.entries.iter().filter(|e| e.holds).count() as u32
+    }
+
+    // How many writers stand before a place.
+    fn writers_before(&self, at: usize) -> u32
+        requires { at ≤ length (list_of self.now) }
+        ensures many { result ≡ count_by is_writer (take at (list_of self.now)) }
+        ensures few { result ≤ 64 }
+    {
+        self.entries[..at].iter().filter(|e| e.is_writer()).count() as u32
     }
 
     /// The request at a place, if there is one.
     pub(crate) fn request(&self, at: usize) -> Option<Request>
-        requires { Fits self.now }
         ensures { result ≡ slice_get (requests (list_of self.now)) at }
     {
-        if at >= self.size {
-            return None;
-        }
-        let e = self.entries[at];
+        let e = *self.entries.get(at)?;
         if e.holds {
             return Some(Request {
-                party: e.party as u32,
+                party: e.party.into(),
                 mode: e.mode,
                 holds: true,
                 turns: 0,
                 departures: 0,
             });
         }
-        let holders = count(&self.entries[..self.size], Kind::Holder) as u32;
-        let before = count(&self.entries[..at], Kind::Writer) as u32;
-        let turns = turns(self.some(Kind::HoldingWriter), before, e.mode);
         Some(Request {
-            party: e.party as u32,
+            party: e.party.into(),
             mode: e.mode,
             holds: false,
-            turns,
-            departures: holders,
+            turns: turns(self.is_writing(), self.writers_before(at), e.mode),
+            departures: self.holders(),
         })
+    }
+
+    // The place of the first entry of a party, if it is active.
+    fn place(&self, party: u8) -> Option<usize>
+        ensures { result ≡ position (λ e. e.party == party) (list_of self.now) }
+    {
+        self.entries.iter().position(|e| e.party == party)
     }
 
     /// The request of a party, if it has one.
     pub(crate) fn request_of(&self, party: u8) -> Option<Request>
-        requires { Fits self.now }
         ensures { result ≡ request_of party (requests (list_of self.now)) }
     {
-        self.request(place(&self.entries[..self.size], Kind::Of(party)))
+        self.request(self.place(party)?)
+    }
+}
+
+// Lets all reads hold.
+fn reads_hold(es: &mut [Entry])
+    ensures { es.new ≡ reads_hold es.old }
+{
+    for e in es {
+        if !e.is_writer() {
+            e.holds = true;
+        }
     }
 }
 

@@ -1,23 +1,29 @@
 -- What a bank of slot resources always keeps.
-use Rattle.std.specs.Prelude.{◌≡◌, ℕ, ◌<◌, ◌≤◌, List, length, slice_index, slice_index_or}
-use Rattle.slots.specs.Rows.{bare}
+use Rattle.std.specs.Prelude.{◌≡◌, ℕ, ◌<◌, ◌≤◌, List, length, Ok, Err, Result, slice_index, slice_index_or}
+use Rattle.bank.specs.declared.refusal.Refusal.{Refusal}
+use Rattle.bank.specs.declared.refusal.Refusal.TheVariants.{NoResource}
+use Rattle.slots.specs.Rows.{row, bare}
 use Rattle.slots.specs.declared.line.Line.{Line}
 
--- sixteen lines, each with 64 places
+-- sixteen lines
 abbrev pub Held : List Line → Type 0
-Held lines = (length lines ≡ 16) × ((r : ℕ) → r < 16 → length (slice_index_or lines r bare).parties ≡ 64)
+Held lines = length lines ≡ 16
 
--- each with as many parties as there are seats at most
-abbrev pub Few : ℕ → List Line → Type 0
-Few seats lines = (r : ℕ) → r < 16 → (slice_index_or lines r bare).size ≤ seats
+-- a line has as many parties as there are seats at most, and each party is below 64
+abbrev pub Keeping : ℕ → Line → Type 0
+Keeping seats l = (length (row l) ≤ seats) × ((i : ℕ) → i < length (row l) → slice_index (row l) i < 64)
 
--- each party below 64
-abbrev pub Below : List Line → Type 0
-Below lines = (r i : ℕ) → r < 16 → i < (slice_index_or lines r bare).size → slice_index (slice_index_or lines r bare).parties i < 64
+abbrev pub Kept : ℕ → List Line → Type 0
+Kept seats lines = (r : ℕ) → r < 16 → Keeping seats (slice_index_or lines r bare)
 
--- sixteen places for the holders of a resource, the first n of them at least 1
-abbrev pub Sized : List ℕ → ℕ → Type 0
-Sized ks n = (length ks ≡ 16) × (n ≤ 16) × ((r : ℕ) → r < n → 1 ≤ slice_index ks r)
+-- at most sixteen resources, each with at least one slot
+abbrev pub Sized : List Line → ℕ → Type 0
+Sized lines n = (n ≤ 16) × ((r : ℕ) → r < n → 1 ≤ (slice_index_or lines r bare).slots)
 
 abbrev pub Seated : ℕ → Type 0
 Seated seats = (1 ≤ seats) × (seats ≤ 64)
+
+-- the place of a resource's line, if there are so many resources
+abbrev pub IsIndex : ℕ → ℕ → Result ℕ Refusal → Type 0
+IsIndex count r (Ok at) = (r < count) × (at ≡ r)
+IsIndex count r (Err why) = (count ≤ r) × (why ≡ NoResource)

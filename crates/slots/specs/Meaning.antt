@@ -1,9 +1,8 @@
 -- What the calls of a bank of slot resources mean.
-use Rattle.std.specs.Prelude.{◌≡◌, ℕ, ◌+◌, ◌<◌, Bool, true, length, None, Ok, Err, Result, nat_lt, slice_index_or, refl}
+use Rattle.std.specs.Prelude.{◌≡◌, ℕ, ◌+◌, ◌<◌, Bool, true, length, None, Ok, Err, Result, nat_lt, refl}
 use Rattle.std.proofs.Common.{◌-◌, sym, ap, subst, ◌∙◌, arith, div-le_self}
 use Rattle.std.specs.List.{AllZip, remove, AllByRecursion}
 use Rattle.std.proofs.ByRecursion.{All-from_get_or}
-use Rattle.std.proofs.lemmas.List.{length-take, get_or-take}
 use Rattle.std.proofs.lemmas.Bool.{and_parts, ltb-true}
 use Rattle.std.proofs.lemmas.Bool.Decides.{nat_tests}
 use Rattle.text.specs.Questions.{first_no}
@@ -15,7 +14,7 @@ use Rattle.bank.specs.declared.request.Mode.{Mode}
 use Rattle.bank.specs.declared.request.Mode.TheVariants.{Write, Read}
 use Rattle.slots.specs.Lines.{holding, line, request_at, requests}
 use Rattle.slots.specs.Of.{holders_of, parties_of, told_of, active_of, refused_by, OthersStay, Full, EntersLast, LeavesPlace, NextHolds}
-use Rattle.slots.specs.Rows.{bare, place}
+use Rattle.slots.specs.Rows.{place}
 use Rattle.slots.specs.declared.slots.Slots.{Slots}
 use Rattle.slots.specs.Requests.{limit_is, requests_push, request_party, request_mode, request_holds, holder_is, leaves_front, requests_sound, waits_full}
 use Rattle.slots.specs.RowsLemmas.{front_removed}
@@ -26,19 +25,17 @@ is_full s r = waits_full (holders_of s r) (parties_of s r)
 pub is_small : (s : Slots) → Small (told_of s)
 is_small s =
     record {
-      resources = s.sized.1;
+      resources = s.sized.0;
       some = s.seated.0;
       seats = s.seated.1;
-      limits = λ r m l e. omega (arith, limit_is s.seats (holders_of s r) s.seated.0 (s.sized.2 r l), div-le_self (s.seats - 1) (holders_of s r));
+      limits = λ r m l e. omega (arith, limit_is s.seats (holders_of s r) s.seated.0 (s.sized.1 r l), div-le_self (s.seats - 1) (holders_of s r));
     }
 
 pub is_sound : (s : Slots) (r : ℕ) → r < s.count → Sound (told_of s) r (active_of s r)
 is_sound s r l =
-    let row = slice_index_or s.lines r bare in
-    let n = length-take row.size row.parties in
-    let few = s.few r (omega arith) in
-    let small : AllByRecursion (λ p. p < 64) (parties_of s r) = All-from_get_or (λ p. p < 64) (parties_of s r) 0 (λ i h. let lt : i < row.size = omega arith in rw (get_or-take row.size row.parties i 0 lt) (s.below r i (omega arith) lt)) in
-    requests_sound (told_of s) r s.seats (holders_of s r) (parties_of s r) refl refl (s.sized.2 r l) small (omega arith)
+    let kept = s.kept r (omega arith) in
+    let small : AllByRecursion (λ p. p < 64) (parties_of s r) = All-from_get_or (λ p. p < 64) (parties_of s r) 0 kept.1 in
+    requests_sound (told_of s) r s.seats (holders_of s r) (parties_of s r) refl refl (s.sized.1 r l) small kept.0
 
 -- only the mode W is known
 writes : (s : Slots) (r p : ℕ) (m : Mode) → first_no (enter_questions (told_of s) r p m (active_of s r)) ≡ None → m ≡ Write
@@ -92,7 +89,7 @@ leaves_place s u r p (Ok done) told asks e =
     let same : holders_of u r ≡ k = ap (λ t. t.slots r) told in
     let list : active_of u r ≡ requests k (remove ps (place p ps)) = ap (λ k. requests k (parties_of u r)) same ∙ ap (λ ps. requests k ps) e.0 in (
       asks,
-      subst (λ xs. AllZip Stays (without p (active_of s r)) xs) (sym list) (leaves_front k 0 p ps (s.sized.2 r may.0) may.1 may.2),
+      subst (λ xs. AllZip Stays (without p (active_of s r)) xs) (sym list) (leaves_front k 0 p ps (s.sized.1 r may.0) may.1 may.2),
       others_stay s u r told e.1,
     )
 

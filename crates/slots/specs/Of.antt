@@ -12,7 +12,7 @@ use Rattle.slots.specs.declared.slots.Slots.{Slots}
 
 -- k of a resource
 abbrev pub holders_of : Slots → ℕ → ℕ
-holders_of s r = slice_index s.slots r
+holders_of s r = (slice_index_or s.lines r bare).slots
 
 -- the parties of a resource in order of entry
 abbrev pub parties_of : Slots → ℕ → List ℕ

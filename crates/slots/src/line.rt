@@ -1,45 +1,120 @@
-ghost use Rattle.std.specs.Prelude.{◌≡◌, ℕ, ◌+◌, ◌<◌, ◌≤◌, [], ◌∷◌, ◌++◌, length};
-ghost use Rattle.std.specs.List.{remove};
-ghost use Rattle.slots.specs.Rows.{row, place, Kept};
+ghost use Rattle.std.specs.Prelude.{◌≡◌, ◌<◌, ◌≤◌, ◌==◌, [], ◌∷◌, ◌++◌, length, position, is_some, IfSome};
+ghost use Rattle.std.specs.List.{remove, slice_get};
+ghost use Rattle.bank.specs.Lists.{is_active, is_holder, request_of};
+ghost use Rattle.slots.specs.Lines.{request_at, requests};
+ghost use Rattle.slots.specs.Rows.{row, place};
 
-/// The parties of a resource in order of entry.
+use bank::request::{Mode, Request};
+use byte_vec::byte_vec::ByteVec;
+
+/// A resource with so many slots, and its parties in order of entry.
 #[derive(Clone, Copy)]
 pub struct Line {
-    pub(crate) parties: [u8; 64],
-    pub(crate) size: usize,
+    pub(crate) slots: u8,
+    pub(crate) parties: ByteVec<64>,
 }
 
 impl Line {
-    // The first place of a party, or the size if it is not there.
-    pub(crate) fn find(&self, party: u8) -> usize
-        requires { self.now.size ≤ length self.now.parties }
-        ensures { result ≡ place party (row self.now) }
+    // The most holders.
+    pub(crate) fn holders(&self) -> u32
+        ensures value { result ≡ self.now.slots }
+        ensures small { result < 256 }
     {
-        for i in 0..self.size {
-            if self.parties[i] == party {
-                return i;
+        self.slots.into()
+    }
+
+    // How many are active.
+    pub(crate) fn size(&self) -> u32
+        ensures parties { result ≡ length (row self.now) }
+        ensures requests { result ≡ length (requests self.now.slots (row self.now)) }
+        ensures few { result < 65 }
+    {
+        self.parties.len() as u32
+    }
+
+    // The first place of a party, if it is active.
+    pub(crate) fn find(&self, party: u8) -> Option<usize>
+        ensures place { result ≡ position (λ q. q == party) (row self.now) }
+        ensures within { IfSome result (λ place. place < 64) }
+    {
+        self.parties.as_slice().iter().position(|q| *q == party)
+    }
+
+    // Whether a party is active.
+    pub(crate) fn is_active(&self, party: u8) -> bool
+        ensures { result ≡ is_active party (requests self.now.slots (row self.now)) }
+    {
+        self.find(party).is_some()
+    }
+
+    // The place of a party that holds, if it does.
+    pub(crate) fn holder(&self, party: u8) -> Option<usize>
+        ensures holds { is_some result ≡ is_holder party (requests self.now.slots (row self.now)) }
+        ensures place { IfSome result (λ i. (i ≡ place party (row self.now)) × (i < length (row self.now))) }
+    {
+        let place = self.find(party)?;
+        (place < self.slots as usize).then_some(place)
+    }
+
+    // The request of a party at a place.
+    fn request(&self, place: usize, party: u8) -> Request
+        requires { (1 ≤ self.now.slots) × (place ≤ 64) }
+        ensures { result ≡ request_at self.now.slots place party }
+    {
+        let k = self.holders();
+        let place = place as u32;
+        if place < k {
+            Request {
+                party: party.into(),
+                mode: Mode::Write,
+                holds: true,
+                turns: 0,
+                departures: 0,
+            }
+        } else {
+            Request {
+                party: party.into(),
+                mode: Mode::Write,
+                holds: false,
+                turns: (place - k) / k + 1,
+                departures: (place - k) % k + 1,
             }
         }
-        self.size
+    }
+
+    // The request at a place of the list, if there is one.
+    pub(crate) fn request_at(&self, place: usize) -> Option<Request>
+        requires { 1 ≤ self.now.slots }
+        ensures { result ≡ slice_get (requests self.now.slots (row self.now)) place }
+    {
+        let party = *self.parties.as_slice().get(place)?;
+        Some(self.request(place, party))
+    }
+
+    // The request of a party, if it has one.
+    pub(crate) fn request_of(&self, party: u8) -> Option<Request>
+        requires { 1 ≤ self.now.slots }
+        ensures { result ≡ request_of party (requests self.now.slots (row self.now)) }
+    {
+        let place = self.find(party)?;
+        Some(self.request(place, party))
     }
 
     // A party more at the end.
     pub(crate) fn push(&mut self, party: u8)
-        requires { self.old.size < length self.old.parties }
+        requires { length (row self.old) < 64 }
+        ensures slots { self.new.slots ≡ self.old.slots }
         ensures row { row self.new ≡ row self.old ++ (party ∷ []) }
-        ensures kept { (m : ℕ) → party < 64 → self.old.size < m → Kept m self.old → Kept m self.new }
     {
-        self.parties[self.size] = party;
-        self.size += 1;
+        self.parties.push(party).unwrap();
     }
 
     // The party at a place is gone.
     pub(crate) fn remove(&mut self, place: usize)
-        requires { (self.old.size ≤ length self.old.parties) × (place < self.old.size) }
+        requires { place < length (row self.old) }
+        ensures slots { self.new.slots ≡ self.old.slots }
         ensures row { row self.new ≡ remove (row self.old) place }
-        ensures kept { (m : ℕ) → Kept m self.old → Kept m self.new }
     {
-        self.parties.copy_within(place + 1..self.size, place);
-        self.size -= 1;
+        self.parties.remove(place);
     }
 }

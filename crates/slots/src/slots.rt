@@ -1,4 +1,4 @@
-ghost use Rattle.slots.specs.Limits.{Held, Few, Below, Sized, Seated};
+ghost use Rattle.slots.specs.Limits.{Held, Kept, Sized, Seated};
 
 use crate::line::Line;
 
@@ -6,15 +6,14 @@ use crate::line::Line;
 #[derive(Clone, Copy)]
 pub struct Slots {
     pub(crate) lines: [Line; 16],
-    pub(crate) slots: [u8; 16],
-    pub(crate) count: usize,
+    pub(crate) count: u32,
     pub(crate) seats: u32,
     ghost seated: { Seated seats },
-    ghost sized: { Sized slots count },
     ghost held: { Held lines },
-    ghost few: { Few seats lines },
-    ghost below: { Below lines },
+    ghost sized: { Sized lines count },
+    ghost kept: { Kept seats lines },
 }
 
 pub mod calls;
+mod change;
 pub mod make;

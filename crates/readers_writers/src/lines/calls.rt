@@ -28,60 +28,39 @@ impl Bank for ReadersWriters {
     }
 
     fn slots(&self, resource: u32) -> Result<u32, Refusal> {
-        if resource >= self.count {
-            return Err(Refusal::NoResource);
-        }
+        self.index(resource)?;
         Ok(1)
     }
 
     fn reads(&self, resource: u32) -> Result<bool, Refusal> {
-        if resource >= self.count {
-            return Err(Refusal::NoResource);
-        }
+        self.index(resource)?;
         Ok(true)
     }
 
     fn turn_limit(&self, resource: u32, mode: Mode) -> Result<u32, Refusal> {
-        if resource >= self.count {
-            return Err(Refusal::NoResource);
-        }
+        self.index(resource)?;
         match mode {
             Mode::Write => Ok(2 * self.seats - 2),
-            Mode::Read => {
-                if self.seats < 3 {
-                    Ok(self.seats - 1)
-                } else {
-                    Ok(2)
-                }
-            }
+            Mode::Read => Ok((self.seats - 1).min(2)),
         }
     }
 
     fn count(&self, resource: u32) -> Result<u32, Refusal> {
-        if resource >= self.count {
-            return Err(Refusal::NoResource);
-        }
-        let line = self.lines[resource as usize];
-        Ok(line.active())
+        let at = self.index(resource)?;
+        Ok(self.lines[at].active())
     }
 
     fn request_at(&self, resource: u32, place: u32) -> Result<Option<Request>, Refusal> {
-        if resource >= self.count {
-            return Err(Refusal::NoResource);
-        }
-        let line = self.lines[resource as usize];
-        Ok(line.request(place as usize))
+        let at = self.index(resource)?;
+        Ok(self.lines[at].request(place as usize))
     }
 
     fn request_of(&self, resource: u32, party: u32) -> Result<Option<Request>, Refusal> {
-        if resource >= self.count {
-            return Err(Refusal::NoResource);
-        }
+        let at = self.index(resource)?;
         if party >= 64 {
             return Err(Refusal::NoParty);
         }
-        let line = self.lines[resource as usize];
-        Ok(line.request_of(party as u8))
+        Ok(self.lines[at].request_of(party as u8))
     }
 
     fn enter(&mut self, resource: u32, party: u32, mode: Mode) -> Result<bool, Refusal>

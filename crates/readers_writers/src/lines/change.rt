@@ -2,14 +2,24 @@ ghost use Rattle.std.specs.Prelude.{◌≡◌};
 ghost use Rattle.bank.specs.Meaning.{Enters, Leaves, Keeps};
 ghost use Rattle.readers_writers.specs.Banks.{told_of, active_of};
 ghost use Rattle.readers_writers.specs.Exactly.{EntersExactly, LeavesExactly};
-ghost use Rattle.readers_writers.specs.Of.{Settled};
+ghost use Rattle.readers_writers.specs.Of.{IsIndex};
 
-use crate::kind::Kind;
 use crate::lines::ReadersWriters;
 use bank::refusal::Refusal;
 use bank::request::Mode;
 
 impl ReadersWriters {
+    /// The place of a resource's line.
+    pub(crate) fn index(&self, resource: u32) -> Result<usize, Refusal>
+        ensures { IsIndex self.now.count resource result }
+    {
+        if resource < self.count {
+            Ok(resource as usize)
+        } else {
+            Err(Refusal::NoResource)
+        }
+    }
+
     /// What the bank's `enter` does.
     pub(crate) fn enter_line(
         &mut self,
@@ -21,24 +31,19 @@ impl ReadersWriters {
         ensures enters { Enters (told_of self.old) resource party mode result (active_of self.old) (active_of self.new) }
         ensures keeps { Keeps result self.old self.new }
         ensures exact { EntersExactly resource party mode result self.old.lines self.new.lines }
-        ensures settled { Settled self.new.lines self.new.count }
     {
-        if resource >= self.count {
-            return Err(Refusal::NoResource);
-        }
+        let at = self.index(resource)?;
         if party >= 64 {
             return Err(Refusal::NoParty);
         }
-        let mut line = self.lines[resource as usize];
-        if line.some(Kind::Of(party as u8)) {
+        if self.lines[at].is_active(party as u8) {
             return Err(Refusal::AlreadyActive);
         }
-        if line.size >= self.seats as usize {
+        if self.lines[at].active() >= self.seats {
             return Err(Refusal::NoSeat);
         }
-        let holds = line.enter(party as u8, mode);
-        self.lines[resource as usize] = line;
-        Ok(holds)
+        let lines = &mut self.lines;
+        Ok(lines[at].enter(party as u8, mode))
     }
 
     /// What the bank's `leave` does.
@@ -47,20 +52,16 @@ impl ReadersWriters {
         ensures leaves { Leaves (told_of self.old) resource party result (active_of self.old) (active_of self.new) }
         ensures keeps { Keeps result self.old self.new }
         ensures exact { LeavesExactly resource party result self.old.lines self.new.lines }
-        ensures settled { Settled self.new.lines self.new.count }
     {
-        if resource >= self.count {
-            return Err(Refusal::NoResource);
-        }
+        let at = self.index(resource)?;
         if party >= 64 {
             return Err(Refusal::NoParty);
         }
-        let mut line = self.lines[resource as usize];
-        if !line.some(Kind::HeldBy(party as u8)) {
+        let Some(holder) = self.lines[at].holder(party as u8) else {
             return Err(Refusal::NotHolding);
-        }
-        line.leave(party as u8);
-        self.lines[resource as usize] = line;
+        };
+        let lines = &mut self.lines;
+        lines[at].leave(holder);
         Ok(())
     }
 }

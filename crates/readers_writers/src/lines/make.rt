@@ -5,10 +5,7 @@ ghost use Rattle.readers_writers.specs.Banks.{told_of};
 ghost use Rattle.readers_writers.specs.Of.{entries_of};
 ghost use Rattle.readers_writers.specs.Told.{told};
 
-use crate::entry::Entry;
-use crate::line::Line;
 use crate::lines::ReadersWriters;
-use bank::request::Mode;
 use plan::plan::Plan;
 use plan::resource::Resource;
 
@@ -33,17 +30,8 @@ impl ReadersWriters {
     {
         let count = reader_writers(plan);
         let seats = plan.all_processors();
-        let entry = Entry {
-            party: 0,
-            mode: Mode::Write,
-            holds: false,
-        };
-        let line = Line {
-            entries: [entry; 64],
-            size: 0,
-        };
         ReadersWriters {
-            lines: [line; 16],
+            lines: Default::default(),
             count,
             seats,
         }

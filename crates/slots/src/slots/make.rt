@@ -1,44 +1,34 @@
-ghost use Rattle.std.specs.Prelude.{◌≡◌, ℕ, ◌<◌, [], length, slice_index};
+ghost use Rattle.std.specs.Prelude.{◌≡◌, ℕ, ◌<◌, [], length, slice_index, slice_index_or};
 ghost use Rattle.plan.specs.Of.{plan_contents};
-ghost use Rattle.slots.specs.Limits.{Sized, Seated};
-ghost use Rattle.slots.specs.Of.{parties_of, MadeFrom};
+ghost use Rattle.slots.specs.Of.{MadeFrom};
+ghost use Rattle.slots.specs.Rows.{row, bare};
 
 use crate::line::Line;
 use crate::slots::Slots;
+use byte_vec::byte_vec::ByteVec;
 use plan::plan::Plan;
 use plan::resource::Resource;
 
-// How many slot resources a plan has, and k of each.
-fn slots_of(plan: &Plan) -> ([u8; 16], usize)
+// The slot resources of a plan with nobody active, and how many there are.
+fn lines_of(plan: &Plan) -> ([Line; 16], u32)
     ensures long { length result.0 ≡ 16 }
     ensures count { result.1 ≡ length (plan_contents plan.now).slots }
-    ensures each { (r : ℕ) → r < result.1 → slice_index result.0 r ≡ slice_index (plan_contents plan.now).slots r }
+    ensures each { (r : ℕ) → r < result.1 → (slice_index_or result.0 r bare).slots ≡ slice_index (plan_contents plan.now).slots r }
+    ensures nobody { (r : ℕ) → row (slice_index_or result.0 r bare) ≡ [] }
 {
-    let mut slots: [u8; 16] = [0; 16];
-    let mut count: usize = 0;
+    let line = Line {
+        slots: 0,
+        parties: ByteVec::new(),
+    };
+    let mut lines = [line; 16];
+    let mut count = 0;
     for r in 0..plan.resources() {
         if let Some(Resource::Slots(k)) = plan.resource(r) {
-            slots[r] = k;
-            count = r + 1;
+            lines[r].slots = k;
+            count = r as u32 + 1;
         }
     }
-    (slots, count)
-}
-
-// Slot resources with the same line at each, which has nobody in it.
-fn idle(line: Line, slots: [u8; 16], count: usize, seats: u32) -> Slots
-    requires { (line.size ≡ 0) × ((length line.parties ≡ 64) × ((Sized slots count) × (Seated seats))) }
-    ensures count { result.count ≡ count }
-    ensures seats { result.seats ≡ seats }
-    ensures slots { result.slots ≡ slots }
-    ensures nobody { (r : ℕ) → parties_of result r ≡ [] }
-{
-    Slots {
-        lines: [line; 16],
-        slots,
-        count,
-        seats,
-    }
+    (lines, count)
 }
 
 impl Slots {
@@ -46,11 +36,11 @@ impl Slots {
     pub fn new(plan: &Plan) -> Slots
         ensures { MadeFrom (plan_contents plan.now) result }
     {
-        let (slots, count) = slots_of(plan);
-        let line = Line {
-            parties: [0; 64],
-            size: 0,
-        };
-        idle(line, slots, count, plan.all_processors())
+        let (lines, count) = lines_of(plan);
+        Slots {
+            lines,
+            count,
+            seats: plan.all_processors(),
+        }
     }
 }

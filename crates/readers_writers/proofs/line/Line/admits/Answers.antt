@@ -1,5 +1,4 @@
-use Rattle.std.proofs.Common.{◌≡◌, eqb, length, sym, ap, ◌∙◌, arith}
-use Rattle.std.proofs.lemmas.List.{length-take-le}
+use Rattle.std.proofs.Common.{not, sym, ap, ◌∙◌}
 use Rattle.readers_writers.specs.Lines.{admits}
 use Rattle.readers_writers.specs.Of.{list_of}
 use Rattle.readers_writers.specs.PlacesLemmas.{nobody}
@@ -7,6 +6,8 @@ use Rattle.readers_writers.proofs.line.Line.admits.Goals as goal
 
 pub returns-in-Write : goal.returns-in-Write
 returns-in-Write c =
-    let l = c.args.self.now in
-    let n : length (list_of l) ≡ l.size = length-take-le l.size l.entries (omega arith) in
-    ap (λ k. eqb k 0) (sym n) ∙ (sym (nobody (list_of l)) ∙ ap (admits (list_of l)) (sym c.in-Write.is))
+    let es = list_of c.args.self.now in
+    c.is_empty.ensures ∙ (sym (nobody es) ∙ ap (admits es) (sym c.in-Write.is))
+
+pub returns-in-Read : goal.returns-in-Read
+returns-in-Read c = ap not c.has_writer.ensures ∙ ap (admits (list_of c.args.self.now)) (sym c.in-Read.is)

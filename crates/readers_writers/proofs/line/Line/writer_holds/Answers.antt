@@ -1,23 +1,25 @@
-use Rattle.std.proofs.Common.{◌≡◌, length, get_or, set, sym, ap, ◌∙◌, arith}
-use lib.Seq.{take-set-lt}
-use Rattle.std.proofs.lemmas.List.{length-set, length-take-le, get_or-take, set_past}
+use Rattle.std.proofs.Common.{◌≡◌, length, get_or, slice_set, sym, ap, ◌∙◌}
+use Rattle.std.proofs.lemmas.List.{length-set, set_past}
+use Rattle.readers_writers.specs.Lines.{is_writer}
 use Rattle.readers_writers.specs.Of.{list_of}
-use Rattle.readers_writers.specs.PlacesLemmas.{blank, writer_at}
+use Rattle.readers_writers.specs.Places.{blank}
+use Rattle.readers_writers.specs.PlacesLemmas.{writer_at}
 use Rattle.readers_writers.specs.Some.{held}
+use Rattle.readers_writers.proofs.Positions.{found, missing, place_past, refilled}
 use Rattle.readers_writers.proofs.line.Line.writer_holds.Goals as goal
 
-pub returns-then-at-self : goal.returns-then-at-self
-returns-then-at-self c =
-    let l = c.args.self.now in
-    let k = c.place-at.result in
-    let lt = c.if-at-self.true in
-    record {
-      fits = (length-set l.entries k _ ∙ c.requires.0, c.requires.1);
-      list = take-set-lt l.size l.entries k (held (get_or l.entries k blank)) lt ∙ (ap (λ x. set (list_of l) k (held x)) (sym (get_or-take l.size l.entries k blank lt)) ∙ (ap (λ j. set (list_of l) j (held (get_or (list_of l) j blank))) c.place-at.ensures ∙ sym (writer_at (list_of l) blank)));
-    }
+pub returns-in-Some : goal.returns-in-Some
+returns-in-Some c =
+    let es = list_of c.args.self.now in
+    let i = c.in-Some.at in
+    let w = found is_writer es i (sym c.writer.ensures ∙ c.in-Some.is) in
+    let now = c.deref_mut.result.now in
+    let same : now ≡ es = c.deref_mut.ensures.value in
+    let one : slice_set now i (held (get_or now i blank)) ≡ slice_set es i (held (get_or es i blank)) = ap (λ ys. slice_set ys i (held (get_or ys i blank))) same in
+    refilled es _ (length-set now i _ ∙ ap length same) ∙ (one ∙ (ap (λ j. slice_set es j (held (get_or es j blank))) w.1 ∙ sym (writer_at es blank)))
 
-pub returns-else-at-self : goal.returns-else-at-self
-returns-else-at-self c =
-    let l = c.args.self.now in
-    let n : length (list_of l) ≡ l.size = length-take-le l.size l.entries (omega arith) in
-    record { fits = c.requires; list = sym (writer_at (list_of l) blank ∙ set_past (list_of l) _ _ (omega (arith, c.place-at.ensures))) }
+pub returns-in_default : goal.returns-in_default
+returns-in_default c =
+    let es = list_of c.args.self.now in
+    let none = missing is_writer es (sym c.writer.ensures ∙ c.in_default.is) in
+    sym (writer_at es blank ∙ set_past es _ _ (place_past is_writer es none))

@@ -1,42 +1,80 @@
-use Rattle.std.proofs.Common.{◌<◌, length, sym, refl, ◌∙◌, arith}
+use Rattle.std.proofs.Common.{◌≡◌, ◌<◌, true, false, length, nat_eq, Ok, slice_set, subst, ap, sym, refl, ◌∙◌, arith}
 use Rattle.std.proofs.lemmas.List.{length-set}
-use Rattle.readers_writers.specs.Of.{entries_of}
-use Rattle.readers_writers.specs.BanksLemmas.{few_entries, enter_resource, enter_party, enter_active, enter_seat, entering, entries_set, entries_other, keep_entered, settles}
+use Rattle.bank.specs.Meaning.{Enters}
+use Rattle.readers_writers.specs.Banks.{told_of, active_of}
+use Rattle.readers_writers.specs.Lines.{some, entered, admits, requests}
+use Rattle.readers_writers.specs.Exactly.{EntersExactly}
+use Rattle.readers_writers.specs.Of.{entries_of, list_of, AllKeep}
+use Rattle.readers_writers.specs.BanksLemmas.{enter_active, enter_seat, entering, entries_set, entries_other, keep_entered}
+use Rattle.readers_writers.specs.PlacesLemmas.{length_requests}
+use Rattle.readers_writers.proofs.Places.{line_at}
 use Rattle.readers_writers.proofs.lines.ReadersWriters.enter_line.Goals as goal
 
-pub returns-then-resource-self : goal.returns-then-resource-self
-returns-then-resource-self c =
+pub returns-then-is_active-clause-enters : goal.returns-then-is_active-clause-enters
+returns-then-is_active-clause-enters c =
     let b = c.args.self.now in
-    record { told = refl; enters = enter_resource b.count b.seats c.args.resource c.args.party c.args.mode (entries_of b.lines c.args.resource) c.if-resource-self.true; keeps = refl; exact = refl; settled = settles b.lines b.count b.seats b.kept }
+    let r = c.args.resource in
+    let p = c.args.party in
+    let k = c.args.mode in
+    let at = c.in_ok-at.at in
+    let is = c.in_ok-at.ensures.1 in
+    let low = c.if-party-ge64.false in
+    let a : r < b.count = omega (arith, c.in_ok-at.ensures.0) in
+    let long : r < length b.lines = omega (arith, b.long, b.few, a) in
+    let active : some (λ e. nat_eq e.party p) (entries_of b.lines r) ≡ true = sym (c.if-is_active.ensures ∙ ap (some (λ e. nat_eq e.party p)) (line_at b.lines at r _ long is)) in
+    enter_active b.count b.seats r p k (entries_of b.lines r) a low active
 
-pub returns-then-party-ge64 : goal.returns-then-party-ge64
-returns-then-party-ge64 c =
+pub returns-then-active-self-clause-enters : goal.returns-then-active-self-clause-enters
+returns-then-active-self-clause-enters c =
     let b = c.args.self.now in
-    record { told = refl; enters = enter_party b.count b.seats c.args.resource c.args.party c.args.mode (entries_of b.lines c.args.resource) c.if-resource-self.false c.if-party-ge64.true; keeps = refl; exact = refl; settled = settles b.lines b.count b.seats b.kept }
+    let r = c.args.resource in
+    let p = c.args.party in
+    let k = c.args.mode in
+    let at = c.in_ok-at.at in
+    let is = c.in_ok-at.ensures.1 in
+    let low = c.if-party-ge64.false in
+    let a : r < b.count = omega (arith, c.in_ok-at.ensures.0) in
+    let long : r < length b.lines = omega (arith, b.long, b.few, a) in
+    let active : some (λ e. nat_eq e.party p) (entries_of b.lines r) ≡ false = sym (c.if-is_active.ensures ∙ ap (some (λ e. nat_eq e.party p)) (line_at b.lines at r _ long is)) in
+    let n : c.active.result ≡ length (entries_of b.lines r) = c.active.ensures ∙ (length_requests _ _ 0 _ ∙ ap length (line_at b.lines at r _ long is)) in
+    enter_seat b.count b.seats r p k (entries_of b.lines r) a low active (omega (arith, n))
 
-pub returns-then-some : goal.returns-then-some
-returns-then-some c =
+pub enter-requires : goal.enter-requires
+enter-requires c =
     let b = c.args.self.now in
-    record { told = refl; enters = enter_active b.count b.seats c.args.resource c.args.party c.args.mode (entries_of b.lines c.args.resource) c.if-resource-self.false c.if-party-ge64.false (sym c.if-some.ensures); keeps = refl; exact = refl; settled = settles b.lines b.count b.seats b.kept }
-
-pub returns-then-line-self : goal.returns-then-line-self
-returns-then-line-self c =
-    let b = c.args.self.now in
-    let n = few_entries b.lines b.count b.seats c.args.resource b.kept b.most c.if-resource-self.false in
-    record { told = refl; enters = enter_seat b.count b.seats c.args.resource c.args.party c.args.mode (entries_of b.lines c.args.resource) c.if-resource-self.false c.if-party-ge64.false (sym c.if-some.ensures) (omega arith); keeps = refl; exact = refl; settled = settles b.lines b.count b.seats b.kept }
+    let r = c.args.resource in
+    let p = c.args.party in
+    let k = c.args.mode in
+    let at = c.in_ok-at.at in
+    let is = c.in_ok-at.ensures.1 in
+    let low = c.if-party-ge64.false in
+    let a : r < b.count = omega (arith, c.in_ok-at.ensures.0) in
+    let long : r < length b.lines = omega (arith, b.long, b.few, a) in
+    let n : c.active.result ≡ length (entries_of b.lines r) = c.active.ensures ∙ (length_requests _ _ 0 _ ∙ ap length (line_at b.lines at r _ long is)) in
+    let m = ap length (line_at b.lines at r c.index-lines-at.result long is) in
+    omega (arith, n, b.most)
 
 pub invariant_of-self : goal.invariant_of-self
 invariant_of-self c =
     let b = c.args.self.now in
     let r = c.args.resource in
-    let new = c.enter-holds.new.self in
-    let a = c.if-resource-self.false in
-    let n = few_entries b.lines b.count b.seats r b.kept b.most a in record {
-      long = length-set b.lines r new ∙ b.long;
+    let p = c.args.party in
+    let k = c.args.mode in
+    let at = c.in_ok-at.at in
+    let is = c.in_ok-at.ensures.1 in
+    let low = c.if-party-ge64.false in
+    let a : r < b.count = omega (arith, c.in_ok-at.ensures.0) in
+    let long : r < length b.lines = omega (arith, b.long, b.few, a) in
+    let n : c.active.result ≡ length (entries_of b.lines r) = c.active.ensures ∙ (length_requests _ _ 0 _ ∙ ap length (line_at b.lines at r _ long is)) in
+    let new = c.enter.new.self in
+    let list : list_of new ≡ entered (entries_of b.lines r) p k = c.enter.ensures.list ∙ ap (λ es. entered es p k) (line_at b.lines at r _ long is) in
+    let kept = keep_entered b.lines b.count b.seats r p new a low long b.kept k (omega (arith, n)) list in
+    record {
+      long = length-set b.lines at new ∙ b.long;
       few = b.few;
       seated = b.seated;
       most = b.most;
-      kept = keep_entered b.lines b.count b.seats r c.args.party new a c.if-party-ge64.false (omega arith) b.kept c.args.mode b.most (omega arith) c.enter-holds.ensures.fits c.enter-holds.ensures.list;
+      kept = subst (λ i. AllKeep (slice_set b.lines i new) b.count b.seats) (sym is) kept;
     }
 
 pub returns : goal.returns
@@ -45,17 +83,23 @@ returns c =
     let r = c.args.resource in
     let p = c.args.party in
     let k = c.args.mode in
-    let new = c.enter-holds.new.self in
-    let a = c.if-resource-self.false in
+    let at = c.in_ok-at.at in
+    let is = c.in_ok-at.ensures.1 in
     let low = c.if-party-ge64.false in
+    let a : r < b.count = omega (arith, c.in_ok-at.ensures.0) in
     let long : r < length b.lines = omega (arith, b.long, b.few, a) in
-    let n = few_entries b.lines b.count b.seats r b.kept b.most a in
-    let room : length (entries_of b.lines r) < b.seats = omega (arith, n, c.if-line-self.false) in
-    let e = c.enter-holds.ensures in
+    let active : some (λ e. nat_eq e.party p) (entries_of b.lines r) ≡ false = sym (c.if-is_active.ensures ∙ ap (some (λ e. nat_eq e.party p)) (line_at b.lines at r _ long is)) in
+    let n : c.active.result ≡ length (entries_of b.lines r) = c.active.ensures ∙ (length_requests _ _ 0 _ ∙ ap length (line_at b.lines at r _ long is)) in
+    let new = c.enter.new.self in
+    let es = entries_of b.lines r in
+    let room : length es < b.seats = omega (arith, n) in
+    let at_old = line_at b.lines at r c.index-lines-at.result long is in
+    let list : list_of new ≡ entered es p k = c.enter.ensures.list ∙ ap (λ es. entered es p k) at_old in
+    let held : c.enter.result ≡ admits es k = c.enter.ensures.holds ∙ ap (λ es. admits es k) at_old in
+    let s : slice_set b.lines r new ≡ slice_set b.lines at new = ap (λ i. slice_set b.lines i new) (sym is) in
     record {
       told = refl;
-      enters = entering b.lines b.count b.seats r p new a low long b.kept k c.enter-holds.result (sym c.if-some.ensures) room e.list e.holds;
+      enters = subst (λ ls. Enters (told_of b) r p k (Ok c.enter.result) (active_of b) (λ q. requests (entries_of ls q))) s (entering b.lines b.count b.seats r p new a low long b.kept k c.enter.result active room list held);
       keeps = tt;
-      exact = (e.holds, entries_set b.lines r new long ∙ e.list, entries_other b.lines r new);
-      settled = settles _ b.count b.seats (keep_entered b.lines b.count b.seats r p new a low long b.kept k b.most room e.fits e.list);
+      exact = subst (λ ls. EntersExactly r p k (Ok c.enter.result) b.lines ls) s (held, entries_set b.lines r new long ∙ list, entries_other b.lines r new);
     }

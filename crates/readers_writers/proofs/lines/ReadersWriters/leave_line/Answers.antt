@@ -1,34 +1,52 @@
-use Rattle.std.proofs.Common.{◌<◌, length, sym, refl, ◌∙◌, arith}
+use Rattle.std.proofs.Common.{◌≡◌, ◌<◌, length, position, Some, None, Ok, slice_set, subst, ap, sym, refl, ◌∙◌, arith}
 use Rattle.std.proofs.lemmas.List.{length-set}
-use Rattle.readers_writers.specs.Of.{entries_of}
-use Rattle.readers_writers.specs.BanksLemmas.{leave_resource, leave_party, leave_holder, leaving, entries_set, entries_other, keep_left, settles}
+use Rattle.bank.specs.Meaning.{Leaves}
+use Rattle.readers_writers.specs.Banks.{told_of, active_of}
+use Rattle.readers_writers.specs.Exactly.{LeavesExactly}
+use Rattle.readers_writers.specs.Lines.{holder_of, left, requests}
+use Rattle.readers_writers.specs.Of.{entries_of, list_of, AllKeep}
+use Rattle.readers_writers.specs.Places.{parted}
+use Rattle.readers_writers.specs.BanksLemmas.{leave_holder, leaving, entries_set, entries_other, keep_left}
+use Rattle.readers_writers.proofs.Places.{line_at}
+use Rattle.readers_writers.proofs.Positions.{found as found_at, missing, parted_left}
 use Rattle.readers_writers.proofs.lines.ReadersWriters.leave_line.Goals as goal
 
-pub returns-then-resource-self : goal.returns-then-resource-self
-returns-then-resource-self c =
+pub returns-in_default-clause-leaves : goal.returns-in_default-clause-leaves
+returns-in_default-clause-leaves c =
     let b = c.args.self.now in
-    record { told = refl; leaves = leave_resource b.count b.seats c.args.resource c.args.party (entries_of b.lines c.args.resource) c.if-resource-self.true; keeps = refl; exact = refl; settled = settles b.lines b.count b.seats b.kept }
-
-pub returns-then-party-ge64 : goal.returns-then-party-ge64
-returns-then-party-ge64 c =
-    let b = c.args.self.now in
-    record { told = refl; leaves = leave_party b.count b.seats c.args.resource c.args.party (entries_of b.lines c.args.resource) c.if-resource-self.false c.if-party-ge64.true; keeps = refl; exact = refl; settled = settles b.lines b.count b.seats b.kept }
-
-pub returns-then-not-some : goal.returns-then-not-some
-returns-then-not-some c =
-    let b = c.args.self.now in
-    record { told = refl; leaves = leave_holder b.count b.seats c.args.resource c.args.party (entries_of b.lines c.args.resource) c.if-resource-self.false c.if-party-ge64.false (sym c.if-not-some.ensures); keeps = refl; exact = refl; settled = settles b.lines b.count b.seats b.kept }
+    let r = c.args.resource in
+    let p = c.args.party in
+    let at = c.in_ok-at.at in
+    let is = c.in_ok-at.ensures.1 in
+    let low = c.if-party-ge64.false in
+    let a : r < b.count = omega (arith, c.in_ok-at.ensures.0) in
+    let long : r < length b.lines = omega (arith, b.long, b.few, a) in
+    let at_old = line_at b.lines at r c.index-self-at.result long is in
+    let found : position (holder_of p) (entries_of b.lines r) ≡ None = ap (position (holder_of p)) (sym at_old) ∙ (sym c.holder.ensures ∙ c.in_default.is) in
+    leave_holder b.count b.seats r p (entries_of b.lines r) a low (missing (holder_of p) (entries_of b.lines r) found)
 
 pub invariant_of-self : goal.invariant_of-self
 invariant_of-self c =
     let b = c.args.self.now in
     let r = c.args.resource in
-    let new = c.leave.new.self in record {
-      long = length-set b.lines r new ∙ b.long;
+    let p = c.args.party in
+    let at = c.in_ok-at.at in
+    let is = c.in_ok-at.ensures.1 in
+    let low = c.if-party-ge64.false in
+    let a : r < b.count = omega (arith, c.in_ok-at.ensures.0) in
+    let long : r < length b.lines = omega (arith, b.long, b.few, a) in
+    let at_old = line_at b.lines at r c.index-self-at.result long is in
+    let found : position (holder_of p) (entries_of b.lines r) ≡ Some c.in-Some.holder = ap (position (holder_of p)) (sym at_old) ∙ (sym c.holder.ensures ∙ c.in-Some.is) in
+    let new = c.leave.new.self in
+    let holds = found_at (holder_of p) (entries_of b.lines r) c.in-Some.holder found in
+    let list : list_of new ≡ left (entries_of b.lines r) p = c.leave.ensures ∙ (ap (λ es. parted es c.in-Some.holder) (line_at b.lines at r _ long is) ∙ parted_left p c.in-Some.holder (entries_of b.lines r) found) in
+    let kept = keep_left b.lines b.count b.seats r p new a low long b.kept holds.0 list in
+    record {
+      long = length-set b.lines at new ∙ b.long;
       few = b.few;
       seated = b.seated;
       most = b.most;
-      kept = keep_left b.lines b.count b.seats r c.args.party new c.if-resource-self.false c.if-party-ge64.false (omega arith) b.kept b.most (sym c.if-not-some.ensures) c.leave.ensures.fits c.leave.ensures.list;
+      kept = subst (λ i. AllKeep (slice_set b.lines i new) b.count b.seats) (sym is) kept;
     }
 
 pub returns : goal.returns
@@ -36,16 +54,21 @@ returns c =
     let b = c.args.self.now in
     let r = c.args.resource in
     let p = c.args.party in
-    let new = c.leave.new.self in
-    let a = c.if-resource-self.false in
+    let at = c.in_ok-at.at in
+    let is = c.in_ok-at.ensures.1 in
     let low = c.if-party-ge64.false in
+    let a : r < b.count = omega (arith, c.in_ok-at.ensures.0) in
     let long : r < length b.lines = omega (arith, b.long, b.few, a) in
-    let s = sym c.if-not-some.ensures in
-    let e = c.leave.ensures in
+    let at_old = line_at b.lines at r c.index-self-at.result long is in
+    let found : position (holder_of p) (entries_of b.lines r) ≡ Some c.in-Some.holder = ap (position (holder_of p)) (sym at_old) ∙ (sym c.holder.ensures ∙ c.in-Some.is) in
+    let new = c.leave.new.self in
+    let es = entries_of b.lines r in
+    let holds = (found_at (holder_of p) es c.in-Some.holder found).0 in
+    let list : list_of new ≡ left es p = c.leave.ensures ∙ (ap (λ es. parted es c.in-Some.holder) (line_at b.lines at r _ long is) ∙ parted_left p c.in-Some.holder es found) in
+    let s : slice_set b.lines r new ≡ slice_set b.lines at new = ap (λ i. slice_set b.lines i new) (sym is) in
     record {
       told = refl;
-      leaves = leaving b.lines b.count b.seats r p new a low long b.kept s e.list;
+      leaves = subst (λ ls. Leaves (told_of b) r p (Ok tt) (active_of b) (λ q. requests (entries_of ls q))) s (leaving b.lines b.count b.seats r p new a low long b.kept holds list);
       keeps = tt;
-      exact = (entries_set b.lines r new long ∙ e.list, entries_other b.lines r new);
-      settled = settles _ b.count b.seats (keep_left b.lines b.count b.seats r p new a low long b.kept b.most s e.fits e.list);
+      exact = subst (λ ls. LeavesExactly r p (Ok tt) b.lines ls) s (entries_set b.lines r new long ∙ list, entries_other b.lines r new);
     }

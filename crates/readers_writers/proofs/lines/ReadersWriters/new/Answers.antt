@@ -1,10 +1,11 @@
-use Rattle.std.proofs.Common.{◌≡◌, ℕ, zero, suc, ◌+◌, ◌<◌, ◌≤◌, List, [], ◌∷◌, get_or, take, replicate, sum, sym, refl, subst, arith}
-use Rattle.std.proofs.lemmas.List.{get_or-replicate}
+use Rattle.std.proofs.Common.{◌≡◌, ℕ, true, zero, suc, ◌+◌, ◌<◌, ◌≤◌, List, [], ◌∷◌, length, get_or, take, sum, sym, ap, refl, subst, ⊎_elim, arith}
+use Rattle.std.proofs.lemmas.Bool.{cases_lt}
+use Rattle.std.proofs.lemmas.List.{get_or_past}
 use Rattle.std.proofs.lemmas.List.Sums.{sum_by-cons}
 use Rattle.plan.proofs.Rows.{processors_few}
-use Rattle.readers_writers.specs.Of.{Keeping}
+use Rattle.readers_writers.specs.Kept.{named, good}
 use Rattle.readers_writers.specs.declared.line.Line.{Line}
-use Rattle.readers_writers.specs.PlacesLemmas.{blank}
+use Rattle.readers_writers.specs.Of.{list_of, bare, Keeping}
 use Rattle.readers_writers.proofs.lines.ReadersWriters.new.Goals as goal
 
 some_processor : (xs : List ℕ) (n : ℕ) → 0 < n → 1 ≤ get_or xs 0 0 → 1 ≤ sum (take n xs)
@@ -12,11 +13,8 @@ some_processor [] n l h = absurd (omega arith)
 some_processor (x ∷ xs) zero l h = absurd (omega arith)
 some_processor (x ∷ xs) (suc n) l h = let e : sum (x ∷ take n xs) ≡ x + sum (take n xs) = sum_by-cons (λ y. y) x (take n xs) in omega arith
 
-abbrev free : Line
-free = record { entries = replicate 64 blank; size = 0 }
-
-keep_free : (m n r : ℕ) → r < n → Keeping m (get_or (replicate n free) r (record { entries = []; size = 0 }))
-keep_free m n r l = subst (Keeping m) (sym (get_or-replicate n r free (record { entries = []; size = 0 }) l)) (refl, omega arith, refl, refl)
+keep_free : (m : ℕ) (l : Line) → list_of l ≡ [] → Keeping m l
+keep_free m l e = (omega (arith, ap length e), subst (λ es. named es ≡ true) (sym e) refl, subst (λ es. good es ≡ true) (sym e) refl)
 
 pub invariant_of-result : goal.invariant_of-result
 invariant_of-result c =
@@ -27,9 +25,12 @@ invariant_of-result c =
     let w = c.reader_writers-count.ensures in
     let m = c.all_processors-seats.ensures in
     let held = t.resources_held in record {
-      long = refl;
+      long = c.default.ensures.long;
       few = omega arith;
       seated = omega arith;
       most = omega arith;
-      kept = λ r l. keep_free _ 16 r (omega arith);
+      kept = λ r l. keep_free _ _ (c.default.ensures.at r bare (omega arith));
     }
+
+pub returns-clause-free : goal.returns-clause-free
+returns-clause-free c = λ r. ⊎_elim (λ l. c.default.ensures.at r bare l) (λ l. ap list_of (get_or_past c.default.result r bare (omega (arith, c.default.ensures.long)))) (cases_lt r 16)

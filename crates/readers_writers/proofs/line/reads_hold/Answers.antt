@@ -1,0 +1,28 @@
+use Rattle.std.proofs.Common.{◌≡◌, ◌++◌, map, get_or, drop, set, sym, ap, ◌∙◌, append-nil, arith}
+use Rattle.std.proofs.lemmas.Bool.{cond-true, cond-false}
+use Rattle.std.proofs.lemmas.List.Edits.{map_over_more}
+use Rattle.std.proofs.lemmas.List.{take_all, drop_all, get_or_default}
+use Rattle.readers_writers.specs.Lines.{is_writer}
+use Rattle.readers_writers.specs.Places.{blank, read_held}
+use Rattle.readers_writers.specs.PlacesLemmas.{reads_map}
+use Rattle.readers_writers.specs.Some.{held}
+use Rattle.readers_writers.proofs.line.reads_hold.Goals as goal
+use Rattle.readers_writers.proofs.line.reads_hold.Goals.{then-not-is_writer, else-not-is_writer}
+
+pub loop-e-preserved : goal.loop-e-preserved
+loop-e-preserved c =
+    let ys = c.loop-e.e-items in
+    let i = c.loop-e.e-index in
+    let x = get_or ys i blank in
+    let more : set ys i (read_held x) ≡ _ = map_over_more read_held c.args.es.now ys i x c.loop-e-test.true c.loop-e.invariant (get_or_default ys i blank x (omega arith)) in
+    elim c.if-not-is_writer.branch [
+      | then-not-is_writer w ↦ w.e-items-is ∙ (ap (set ys i) (sym (cond-false (is_writer x) x (held x) (sym c.is_writer.ensures ∙ w.if-not-is_writer.true))) ∙ more)
+      | else-not-is_writer w ↦ w.e-items-is ∙ (ap (set ys i) (sym (cond-true (is_writer x) x (held x) (sym c.is_writer.ensures ∙ w.if-not-is_writer.false))) ∙ more)
+    ]
+
+pub returns : goal.returns
+returns c =
+    let xs = c.args.es.now in
+    let i = c.loop-e.e-index in
+    let l = c.loop-e-test.false in
+    c.loop-e.invariant ∙ (ap (λ ys. map read_held ys ++ drop i xs) (take_all i xs l) ∙ (ap (λ ys. map read_held xs ++ ys) (drop_all i xs l) ∙ (append-nil (map read_held xs) ∙ sym (reads_map xs))))

@@ -1,6 +1,0 @@
-use Rattle.std.proofs.Common.{◌≡◌, ℕ, ◌<◌, min, length, get_or}
-use Rattle.plan.specs.Of.{plan_contents}
-use Rattle.slots.proofs.slots.make.slots_of.Given as goal
-
-abbrev pub invariant-loop-r : goal.invariant-loop-r
-invariant-loop-r l = (length l.slots ≡ 16) × (l.count ≡ min l.r (length (plan_contents l.plan).slots)) × ((j : ℕ) → j < l.count → get_or l.slots j 0 ≡ get_or (plan_contents l.plan).slots j 0)

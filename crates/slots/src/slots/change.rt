@@ -1,0 +1,65 @@
+ghost use Rattle.std.specs.Prelude.{◌≡◌};
+ghost use Rattle.text.specs.Questions.{first_no};
+ghost use Rattle.bank.specs.Questions.{enter_questions, leave_questions};
+ghost use Rattle.slots.specs.Limits.{IsIndex};
+ghost use Rattle.slots.specs.Of.{told_of, active_of, refused_by, EntersLast, LeavesPlace};
+
+use crate::slots::Slots;
+use bank::refusal::Refusal;
+use bank::request::Mode;
+
+impl Slots {
+    // The place of a resource's line.
+    pub(crate) fn index(&self, resource: u32) -> Result<usize, Refusal>
+        ensures { IsIndex self.now.count resource result }
+    {
+        if resource < self.count {
+            Ok(resource as usize)
+        } else {
+            Err(Refusal::NoResource)
+        }
+    }
+
+    // Puts a party that may enter at the end; tells whether it holds.
+    pub(crate) fn take_in(&mut self, resource: u32, party: u32, mode: Mode) -> Result<bool, Refusal>
+        ensures told { told_of self.new ≡ told_of self.old }
+        ensures asks { first_no (enter_questions (told_of self.old) resource party mode (active_of self.old resource)) ≡ refused_by result }
+        ensures exact { EntersLast resource party result self.old self.new }
+    {
+        let at = self.index(resource)?;
+        if mode == Mode::Read {
+            return Err(Refusal::NoMode);
+        }
+        if party >= 64 {
+            return Err(Refusal::NoParty);
+        }
+        let line = self.lines[at];
+        if line.is_active(party as u8) {
+            return Err(Refusal::AlreadyActive);
+        }
+        if line.size() >= self.seats {
+            return Err(Refusal::NoSeat);
+        }
+        let lines = &mut self.lines;
+        lines[at].push(party as u8);
+        Ok(line.size() < line.holders())
+    }
+
+    // Removes a party that may leave.
+    pub(crate) fn let_out(&mut self, resource: u32, party: u32) -> Result<(), Refusal>
+        ensures told { told_of self.new ≡ told_of self.old }
+        ensures asks { first_no (leave_questions (told_of self.old) resource party (active_of self.old resource)) ≡ refused_by result }
+        ensures exact { LeavesPlace resource party result self.old self.new }
+    {
+        let at = self.index(resource)?;
+        if party >= 64 {
+            return Err(Refusal::NoParty);
+        }
+        let Some(place) = self.lines[at].holder(party as u8) else {
+            return Err(Refusal::NotHolding);
+        };
+        let lines = &mut self.lines;
+        lines[at].remove(place);
+        Ok(())
+    }
+}
