@@ -25,15 +25,8 @@ fn let_in<B: Bank>(bank: &B, resource: u32, task: u32, job: Task) -> Task
         return job;
     }
     match bank.request_of(resource, task) {
-        Ok(Some(request)) => {
-            if request.holds {
-                in_state(job, State::Holding(wanted))
-            } else {
-                job
-            }
-        }
-        Ok(None) => job,
-        Err(_) => unreachable(),
+        Ok(Some(request)) if request.holds => in_state(job, State::Holding(wanted)),
+        _ => job,
     }
 }
 
@@ -43,6 +36,7 @@ fn let_in_all<B: Bank>(bank: &B, resource: u32, tasks: usize, rows: &[Task; 64])
     ensures { LetsIn tasks resource (B.Bank.active bank.now resource) rows.now result }
 {
     let mut new = *rows;
+    // the form fixed for the controller: a loop with an index over its table
     for t in 0..tasks {
         new[t] = let_in(bank, resource, t as u32, rows[t]);
     }
@@ -61,9 +55,7 @@ impl<B: Bank> Controller<B> {
         let State::Holding(wanted) = job.state else {
             return Err(Refusal::NotHolding);
         };
-        if let Err(why) = self.bank.leave(wanted.resource, task) {
-            return Err(Refusal::Bank(why));
-        }
+        self.bank.leave(wanted.resource, task)?;
         let mut rows = self.table.rows;
         rows[t] = in_state(job, State::Going);
         let rows = let_in_all(&self.bank, wanted.resource, self.tasks, &rows);
