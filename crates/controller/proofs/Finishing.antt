@@ -46,8 +46,8 @@ state_issued true w = refl
 state_issued false w = refl
 
 -- the records of which the job of t is ended
-pub next_same : (a : Setup) (s : Snapshot) (t : ℕ) (tasks : ℕ → Task) → ((q : ℕ) → tasks q ≡ cond (eqb t q) idle_task (s.tasks q)) → next_of a tasks t ≡ next_issued a s t
-next_same a s t tasks h = ap (λ (f : ℕ → Task). next_of a f t) (fun_ext h)
+pub next_same : (a : Setup) (s : Snapshot) (t : ℕ) (tasks : ℕ → Task) (o : Option ℕ) → o ≡ next_of a tasks t → ((q : ℕ) → tasks q ≡ cond (eqb t q) idle_task (s.tasks q)) → o ≡ next_issued a s t
+next_same a s t tasks o e h = e ∙ ap (λ (f : ℕ → Task). next_of a f t) (fun_ext h)
 
 -- a task that is held back there is another than t
 pub next_other : (k x : Task) (b : Bool) → k ≡ cond b idle_task x → is_held_back k.state ≡ true → k ≡ x

@@ -43,12 +43,7 @@ impl<B: Bank> Controller<B> {
         if t >= self.tasks {
             return Err(Refusal::NoTask);
         }
-        if resource >= self.resources || resource >= self.bank.resources() {
-            return Err(Refusal::NoResource);
-        }
-        self.bank
-            .turn_limit(resource, mode)
-            .map_err(|_| Refusal::NoMode)?;
+        self.turns(resource, mode)?;
         self.plan
             .length(t, resource as usize)
             .ok_or(Refusal::NoLength)?;

@@ -7,7 +7,7 @@ ghost use Rattle.rules.specs.Runs.{Follows};
 
 use crate::call::Call;
 use crate::controller::Controller;
-use crate::state::in_state;
+use crate::state::{in_state, wanted_of};
 use bank::meaning::Bank;
 use rules::refusal::Refusal;
 use rules::task::{State, Task};
@@ -52,9 +52,7 @@ impl<B: Bank> Controller<B> {
         self.check(task, Call::Give)?;
         let t = task as usize;
         let job = self.table.rows[t];
-        let State::Holding(wanted) = job.state else {
-            return Err(Refusal::NotHolding);
-        };
+        let wanted = wanted_of(job.state);
         self.bank.leave(wanted.resource, task)?;
         let mut rows = self.table.rows;
         rows[t] = in_state(job, State::Going);

@@ -1,5 +1,5 @@
 ghost use Rattle.std.specs.Prelude.{◌≡◌};
-ghost use Rattle.controller.specs.Limits.{TellsLimit, nearest_end};
+ghost use Rattle.controller.specs.Limits.{TellsLimit, TellsTurns, nearest_end};
 ghost use Rattle.controller.specs.Of.{setup_of, snapshot_of};
 ghost use Rattle.rules.specs.States.{is_pending};
 
@@ -10,18 +10,24 @@ use rules::refusal::Refusal;
 use rules::task::State;
 
 impl<B: Bank> Controller<B> {
-    /// The most ticks for which a request in this mode waits at a resource.
-    pub fn wait_limit(&self, resource: u32, mode: Mode) -> Result<u64, Refusal>
-        ensures { TellsLimit (setup_of B.Bank self.now) resource mode result }
+    // The turn limit of a mode at a resource.
+    pub(crate) fn turns(&self, resource: u32, mode: Mode) -> Result<u32, Refusal>
+        ensures { TellsTurns (setup_of B.Bank self.now) resource mode result }
     {
         if resource >= self.resources || resource >= self.bank.resources() {
             return Err(Refusal::NoResource);
         }
-        let longest = self.plan.longest(resource as usize).unwrap_or(0);
-        let turns = self
-            .bank
+        self.bank
             .turn_limit(resource, mode)
-            .map_err(|_| Refusal::NoMode)?;
+            .map_err(|_| Refusal::NoMode)
+    }
+
+    /// The most ticks for which a request in this mode waits at a resource.
+    pub fn wait_limit(&self, resource: u32, mode: Mode) -> Result<u64, Refusal>
+        ensures { TellsLimit (setup_of B.Bank self.now) resource mode result }
+    {
+        let turns = self.turns(resource, mode)?;
+        let longest = self.plan.longest(resource as usize).unwrap_or(0);
         Ok(turns as u64 * longest as u64)
     }
 

@@ -1,4 +1,4 @@
-use Rattle.std.proofs.Common.{◌≡◌, ℕ, ◌<◌, cond, eqb, length, get_or, set, sym, refl, ap, ◌∙◌, length-set}
+use Rattle.std.proofs.Common.{◌≡◌, ℕ, ◌<◌, cond, eqb, length, get_or, set, Some, None, sym, refl, ap, ◌∙◌, length-set}
 use Rattle.std.proofs.lemmas.Bool.{ltb-true}
 use Rattle.std.proofs.lemmas.Result.{err_from_is_err_and}
 use Rattle.plan.specs.Of.{plan_contents}
@@ -28,7 +28,7 @@ returns-in_default g c =
       setup = refl;
       does =
           record {
-            answered = finish_plain a s t own (get_or rows t idle_task).blocked (c.in_default.ensures.next a.told a.resources ∙ next_same a s t (tasks_in self.tasks (set rows t idle_task)) ended) (ap (λ (k : Task). k.blocked) (sym (task_here self.tasks rows t lt)));
+            answered = finish_plain a s t own (get_or rows t idle_task).blocked (next_same a s t (tasks_in self.tasks (set rows t idle_task)) None (c.in_default.ensures.next a.told a.resources) ended) (ap (λ (k : Task). k.blocked) (sym (task_here self.tasks rows t lt)));
             tasks = ended;
             clock = refl;
             releases = refl;
@@ -57,7 +57,7 @@ returns-in_err-holds g c =
       setup = same_setup (plan_contents self.plan) self.tasks self.resources _ _ e.told;
       does =
           record {
-            answered = finish_refused a s t own u c.in_err-holds.field-0.0 c.wanted_of-wanted.result _ (next.next a.told a.resources ∙ next_same a s t (tasks_in self.tasks (set rows t idle_task)) ended) wanted e.enters (ap b.active e.keeps);
+            answered = finish_refused a s t own u c.in_err-holds.field-0.0 c.wanted_of-wanted.result _ (next_same a s t (tasks_in self.tasks (set rows t idle_task)) (Some u) (next.next a.told a.resources) ended) wanted e.enters (ap b.active e.keeps);
             tasks = λ q. refl;
             clock = refl;
             releases = refl;
@@ -89,7 +89,7 @@ returns g c =
       setup = same_setup (plan_contents self.plan) self.tasks self.resources _ _ e.told;
       does =
           record {
-            answered = finish_issued a s t own (get_or rows t idle_task).blocked u c.in_ok-holds.holds c.wanted_of-wanted.result _ (next.next a.told a.resources ∙ next_same a s t (tasks_in self.tasks (set rows t idle_task)) ended) (ap (λ (k : Task). k.blocked) (sym (task_here self.tasks rows t lt))) wanted e.enters;
+            answered = finish_issued a s t own (get_or rows t idle_task).blocked u c.in_ok-holds.holds c.wanted_of-wanted.result _ (next_same a s t (tasks_in self.tasks (set rows t idle_task)) (Some u) (next.next a.told a.resources) ended) (ap (λ (k : Task). k.blocked) (sym (task_here self.tasks rows t lt))) wanted e.enters;
             tasks = λ q. tasks_moved self.tasks (set rows t idle_task) (set (set rows t idle_task) u c.in_state.result) u issued next.known.0 self.few_tasks long new q ∙ ap (λ (k : Task). cond (eqb u q) (issued k) k) (ended q);
             clock = refl;
             releases = refl;
