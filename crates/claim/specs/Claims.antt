@@ -6,8 +6,6 @@ use Rattle.rules.specs.declared.refusal.Refusal.{Refusal}
 use Rattle.rules.specs.declared.refusal.Refusal.TheVariants.{NotHolding}
 use Rattle.rules.specs.declared.task.State.{State}
 use Rattle.claim.specs.declared.claim.Claim.{Claim}
-use Rattle.claim.specs.declared.claim.Given.{Given}
-use Rattle.claim.specs.declared.claim.Given.TheVariants.{Spent, Back}
 
 -- the answer without the claim
 abbrev pub asked_of : Result (Asked × Claim) Refusal → Result Asked Refusal
@@ -20,11 +18,11 @@ ClaimFor t (Ok p) = (p.1.task ≡ t) × (p.1.spent ≡ false)
 ClaimFor t (Err why) = Unit {0}
 
 -- a claim handed back is refused with 9
-abbrev pub gave_of : Given → Result ℕ Refusal
-gave_of (Spent x) = x
-gave_of (Back claim) = Err NotHolding
+abbrev pub gave_of : Result (Result ℕ Refusal) Claim → Result ℕ Refusal
+gave_of (Ok x) = x
+gave_of (Err claim) = Err NotHolding
 
 -- it is handed back where the task waits or is held back, and only there
-abbrev pub HandedBack : Claim → State → Given → Type 0
-HandedBack claim st (Spent x) = is_pending st ≡ false
-HandedBack claim st (Back back) = (is_pending st ≡ true) × (back ≡ claim)
+abbrev pub HandedBack : Claim → State → Result (Result ℕ Refusal) Claim → Type 0
+HandedBack claim st (Ok x) = is_pending st ≡ false
+HandedBack claim st (Err back) = (is_pending st ≡ true) × (back ≡ claim)

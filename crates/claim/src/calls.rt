@@ -5,7 +5,7 @@ ghost use Rattle.rules.specs.Answers.{asked, gave};
 ghost use Rattle.rules.specs.Moves.{Does};
 ghost use Rattle.rules.specs.Runs.{Follows};
 
-use crate::claim::{Claim, Given};
+use crate::claim::Claim;
 use bank::meaning::Bank;
 use bank::request::Mode;
 use controller::controller::Controller;
@@ -25,14 +25,15 @@ pub fn ask<B: Bank>(
     ensures keeps { Unchanged result controller.old controller.new }
     ensures claim { ClaimFor task result }
 {
-    match controller.ask(task, resource, mode) {
-        Ok(answer) => Ok((answer, Claim::of(task))),
-        Err(why) => Err(why),
-    }
+    let answer = controller.ask(task, resource, mode)?;
+    Ok((answer, Claim::of(task)))
 }
 
-// Spends a claim, or hands it back.
-fn give_back<B: Bank>(controller: &mut Controller<B>, claim: Claim) -> Given
+// Spends a claim, or hands it back: what `give` does, to which that adds the law of runs, by a lemma.
+fn give_back<B: Bank>(
+    controller: &mut Controller<B>,
+    claim: Claim,
+) -> Result<Result<u32, Refusal>, Claim>
     ensures setup { setup_of B.Bank controller.new ≡ setup_of B.Bank controller.old }
     ensures does { Does (setup_of B.Bank controller.old) (snapshot_of B.Bank controller.old) (gave claim.task (gave_of result)) (snapshot_of B.Bank controller.new) }
     ensures keeps { Unchanged (gave_of result) controller.old controller.new }
@@ -40,15 +41,18 @@ fn give_back<B: Bank>(controller: &mut Controller<B>, claim: Claim) -> Given
 {
     let task = claim.task();
     if controller.is_pending(task) {
-        return Given::Back(claim);
+        return Err(claim);
     }
     claim.spend();
-    Given::Spent(controller.give(task))
+    Ok(controller.give(task))
 }
 
 /// The same call as the controller's `give` of the claim's task, and spends the claim; where the task waits or is held
-/// back, hands it back.
-pub fn give<B: Bank>(controller: &mut Controller<B>, claim: Claim) -> Given
+/// back, that call is refused with 9, and the claim is handed back as the error.
+pub fn give<B: Bank>(
+    controller: &mut Controller<B>,
+    claim: Claim,
+) -> Result<Result<u32, Refusal>, Claim>
     ensures setup { setup_of B.Bank controller.new ≡ setup_of B.Bank controller.old }
     ensures does { Does (setup_of B.Bank controller.old) (snapshot_of B.Bank controller.old) (gave claim.task (gave_of result)) (snapshot_of B.Bank controller.new) }
     ensures follows { Follows (setup_of B.Bank controller.old) (snapshot_of B.Bank controller.old) (gave claim.task (gave_of result)) (snapshot_of B.Bank controller.new) }

@@ -1,8 +1,7 @@
 ghost use Rattle.std.specs.Prelude.{◌≡◌, true, false};
 
-use rules::refusal::Refusal;
-
 /// A claim on what a task asked for. It can only be given back.
+// `Drop` asks for what no claim has, so that a forgotten claim is refused by the prover, and not only by the check of moves.
 pub struct Claim {
     task: u32,
     spent: bool,
@@ -40,12 +39,4 @@ impl Claim {
         let Claim { task, spent: _ } = self;
         task
     }
-}
-
-/// What giving a claim back is answered.
-pub enum Given {
-    /// The claim is spent, with the answer of the give.
-    Spent(Result<u32, Refusal>),
-    /// Refused with 9, since the task waits or is held back: the claim is handed back.
-    Back(Claim),
 }

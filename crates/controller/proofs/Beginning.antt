@@ -1,7 +1,7 @@
 -- How a controller begins, over a bank that fits and over one that does not.
-use Rattle.std.proofs.Common.{◌≡◌, ℕ, zero, suc, ◌<◌, ◌≤◌, Bool, true, false, cond, eqb, ltb, ◌⊎◌, length, get_or, replicate, sym, refl, ap, ◌∙◌, subst, inl, inr, ⊎_elim, arith}
+use Rattle.std.proofs.Common.{◌≡◌, ℕ, zero, suc, ◌<◌, ◌≤◌, Bool, true, false, cond, ◌&&◌, eqb, ltb, ◌⊎◌, length, get_or, replicate, sym, refl, ap, ◌∙◌, subst, inl, inr, ⊎_elim, arith}
 use Rattle.std.proofs.ByRecursion.{All-get_or}
-use Rattle.std.proofs.lemmas.Bool.{ltb-true, eqb-true, and_parts, and_left, and_right, cases_eq}
+use Rattle.std.proofs.lemmas.Bool.{ltb-true, eqb-true, eq-eqb, and_from, and_parts, cases_eq}
 use Rattle.bank.specs.Meaning.{Lists, Small}
 use Rattle.bank.specs.Questions.{Told}
 use Rattle.plan.specs.Contents.{Contents, resource_count, processors}
@@ -16,17 +16,33 @@ use Rattle.rules.specs.declared.task.Task.{Task}
 use Rattle.table.specs.Rows.{tasks_in}
 use Rattle.table.proofs.Rows.{same_all}
 
--- one that fails is enough
-pub all_fails : (test : ℕ → Bool) (n k : ℕ) → k < n → test k ≡ false → all_below test n ≡ false
-all_fails test zero k lt e = absurd (omega arith)
-all_fails test (suc n) k lt e =
+-- whether all pass, by each
+each_passes : (test : ℕ → Bool) (n : ℕ) → all_below test n ≡ true → (k : ℕ) → k < n → test k ≡ true
+each_passes test zero e k lt = absurd (omega arith)
+each_passes test (suc n) e k lt =
+    let parts = and_parts (all_below test n) (test n) e in
     ⊎_elim
-    (λ (same : k ≡ n). and_right (all_below test n) (test n) (ap test (sym same) ∙ e))
-    (λ (ne : k ≡ n → ⊥). and_left (all_below test n) (test n) (all_fails test n k (omega arith) e))
+    (λ (same : k ≡ n). ap test same ∙ parts.1)
+    (λ (ne : k ≡ n → ⊥). each_passes test n parts.0 k (omega arith))
     (cases_eq k n)
 
-pub unfit_at : (c : Contents) (t : Told) (lists : Lists) (r : ℕ) → r < resource_count c → fits_at c t lists r ≡ false → false ≡ fits c t lists
-unfit_at c t lists r lt e = sym (and_right (eqb t.resources (resource_count c)) _ (and_right (eqb t.seats (processors c)) _ (all_fails (fits_at c t lists) (resource_count c) r lt e)))
+all_pass : (test : ℕ → Bool) (n : ℕ) → ((k : ℕ) → k < n → test k ≡ true) → all_below test n ≡ true
+all_pass test zero each = refl
+all_pass test (suc n) each = and_from (all_below test n) (test n) (all_pass test n (λ k lt. each k (omega arith))) (each n (omega arith))
+
+pub all_by_each : (test : ℕ → Bool) (n : ℕ) (b : Bool) → (b ≡ true → (k : ℕ) → k < n → test k ≡ true) → (((k : ℕ) → k < n → test k ≡ true) → b ≡ true) → b ≡ all_below test n
+all_by_each test n b all only = same b (all_below test n) (λ e. all_pass test n (all e)) (λ e. only (each_passes test n e))
+  where
+    same : (b x : Bool) → (b ≡ true → x ≡ true) → (x ≡ true → b ≡ true) → b ≡ x
+    same true x f g = sym (f refl)
+    same false true f g = g refl
+    same false false f g = refl
+
+-- a bank fits by its resources where their number and the seats are the plan's
+pub fits_by : (c : Contents) (t : Told) (lists : Lists) (n : ℕ) (b : Bool) → t.resources ≡ resource_count c → t.seats ≡ processors c → n ≡ resource_count c → b ≡ all_below (fits_at c t lists) n → b ≡ fits c t lists
+fits_by c t lists n b e s m all =
+    let whole = all_below (fits_at c t lists) (resource_count c) in
+    all ∙ (ap (all_below (fits_at c t lists)) m ∙ sym (ap (λ x. x && (eqb t.seats (processors c) && whole)) (eq-eqb _ _ e) ∙ ap (λ x. x && whole) (eq-eqb _ _ s)))
 
 pub same_resources : (c : Contents) (t : Told) (lists : Lists) → fits c t lists ≡ true → t.resources ≡ resource_count c
 same_resources c t lists e = eqb-true _ _ (and_parts _ _ e).0

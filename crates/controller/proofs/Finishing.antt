@@ -9,7 +9,8 @@ use Rattle.text.specs.Questions.{first_no}
 use Rattle.rules.specs.Answers.{finished, Answered, IssuesNext, next_questions}
 use Rattle.rules.specs.Jobs.{Setup, Snapshot, Jobs, cluster_of, first, least_below, if_first, next_issued}
 use Rattle.rules.specs.Questions.{finish_questions}
-use Rattle.rules.specs.States.{is_held_back, wanted_of, idle_task}
+use Rattle.rules.specs.States.{is_held_back, wanted_of, asked_state, issued_state, idle_task}
+use Rattle.rules.specs.declared.answer.Asked.TheVariants.{Hold, Wait}
 use Rattle.rules.specs.declared.refusal.Refusal.TheVariants.{Bank}
 use Rattle.rules.specs.declared.task.Task.{Task}
 use Rattle.rules.specs.declared.task.Wanted.{Wanted}
@@ -39,9 +40,14 @@ next_known a tasks t (Some u) e = go (least_below test value a.tasks) refl (sym 
         let found = least_some test value a.tasks v f in
         subst (λ k. (k < a.tasks) × (is_held_back (tasks k).state ≡ true)) same.1 (found.1, (and_parts _ _ found.0).0)
 
+-- an issued request is in the state of an ask that was answered hold or wait
+pub state_issued : (holds : Bool) (w : Wanted) → asked_state (cond holds Hold Wait) w ≡ issued_state holds w
+state_issued true w = refl
+state_issued false w = refl
+
 -- the records of which the job of t is ended
-pub next_same : (a : Setup) (s : Snapshot) (t : ℕ) (tasks : ℕ → Task) → ((q : ℕ) → tasks q ≡ cond (eqb t q) idle_task (s.tasks q)) → next_of a tasks t ≡ next_issued a s t
-next_same a s t tasks h = ap (λ (f : ℕ → Task). next_of a f t) (fun_ext h)
+pub next_same : (a : Setup) (s : Snapshot) (t : ℕ) (tasks : ℕ → Task) (o : Option ℕ) → o ≡ next_of a tasks t → ((q : ℕ) → tasks q ≡ cond (eqb t q) idle_task (s.tasks q)) → o ≡ next_issued a s t
+next_same a s t tasks o e h = e ∙ ap (λ (f : ℕ → Task). next_of a f t) (fun_ext h)
 
 -- a task that is held back there is another than t
 pub next_other : (k x : Task) (b : Bool) → k ≡ cond b idle_task x → is_held_back k.state ≡ true → k ≡ x

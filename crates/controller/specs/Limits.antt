@@ -10,6 +10,11 @@ use Rattle.rules.specs.States.{is_holding, wanted_of}
 use Rattle.rules.specs.declared.refusal.Refusal.{Refusal}
 use Rattle.table.specs.Rows.{task_and_left}
 
+-- the turn limit of a mode at a resource
+abbrev pub TellsTurns : Setup → ℕ → Mode → Result ℕ Refusal → Type 0
+TellsTurns a r m (Ok n) = (first_no (limit_questions a r m) ≡ None) × (n ≡ a.told.limit r m)
+TellsTurns a r m (Err why) = (first_no (limit_questions a r m) ≡ Some (number why)) × (from_bank why ≡ false)
+
 -- the most ticks for which a request waits: the turn limit of its mode, times the longest length at the resource
 abbrev pub TellsLimit : Setup → ℕ → Mode → Result ℕ Refusal → Type 0
 TellsLimit a r m (Ok n) = (first_no (limit_questions a r m) ≡ None) × (n ≡ a.told.limit r m * longest_at a.plan r)

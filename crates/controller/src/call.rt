@@ -6,7 +6,7 @@ use rules::refusal::Refusal;
 use rules::task::State;
 
 /// The calls that are made for one task.
-#[derive(Clone, Copy)]
+#[derive(Clone, Copy, Debug, PartialEq, Eq)]
 pub enum Call {
     Release,
     Ask,

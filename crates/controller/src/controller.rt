@@ -7,6 +7,7 @@ use bank::meaning::Bank;
 use plan::plan::Plan;
 use rules::task::Task;
 use table::records::Records;
+use table::table::Table;
 
 /// A controller over a bank. Where the bank fits the plan it has the plan's tasks and resources, and else none.
 #[derive(Drop)]
@@ -26,6 +27,22 @@ pub struct Controller<B: Bank> {
     ghost blocked_ticks: { (q : ℕ) → (slice_index_or table.rows q idle_task).blocked ≤ clock },
 }
 
+impl<B: Bank> Controller<B> {
+    // The plan with the records of its tasks.
+    fn jobs(&self) -> Table<'_>
+        ensures plan { result.plan.now ≡ self.now.plan }
+        ensures tasks { result.tasks ≡ self.now.tasks }
+        ensures rows { result.rows.now ≡ self.now.table.rows }
+    {
+        Table {
+            plan: &self.plan,
+            tasks: self.tasks,
+            rows: &self.table.rows,
+        }
+    }
+}
+
+// Each call stands twice: `do_` and its name says what it does, and the call itself adds the law of runs, by a lemma.
 pub mod ask;
 pub mod check;
 pub mod finish;

@@ -1,9 +1,16 @@
-ghost use Rattle.std.specs.Prelude.{◌≡◌};
-ghost use Rattle.rules.specs.States.{asked_state, in_state, issued_state, wanted_of};
+ghost use Rattle.std.specs.Prelude.{◌≡◌, if◌then◌else◌};
+ghost use Rattle.rules.specs.States.{asked_state, in_state, wanted_of};
 
 use bank::request::Mode;
 use rules::answer::Asked;
 use rules::task::{State, Task, Wanted};
+
+// The answer of an ask whose request was issued.
+pub(crate) fn issued(holds: bool) -> Asked
+    ensures { result ≡ (if holds then Asked.Hold else Asked.Wait) }
+{
+    if holds { Asked::Hold } else { Asked::Wait }
+}
 
 // The state after an ask.
 pub(crate) fn asked_state(answer: Asked, wanted: Wanted) -> State
@@ -22,9 +29,8 @@ pub(crate) fn in_state(job: Task, state: State) -> Task
 {
     Task {
         state,
-        release: job.release,
         used: 0,
-        blocked: job.blocked,
+        ..job
     }
 }
 
@@ -38,16 +44,5 @@ pub(crate) fn wanted_of(state: State) -> Wanted
             resource: 0,
             mode: Mode::Write,
         },
-    }
-}
-
-// The state after a request entered the bank.
-pub(crate) fn issued_state(holds: bool, wanted: Wanted) -> State
-    ensures { result ≡ issued_state holds wanted }
-{
-    if holds {
-        State::Holding(wanted)
-    } else {
-        State::Waiting(wanted)
     }
 }

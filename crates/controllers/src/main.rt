@@ -4,7 +4,7 @@
 use bank::meaning::Bank;
 use bank::request::Mode;
 use claim::calls::{ask, give};
-use claim::claim::{Claim, Given};
+use claim::claim::Claim;
 use controller::controller::Controller;
 use pair::pair::Pair;
 use plan::plan::Plan;
@@ -13,7 +13,7 @@ use readers_writers::lines::ReadersWriters;
 use rules::answer::{Asked, Finished};
 use rules::refusal::Refusal;
 use slots::slots::Slots;
-use std::io;
+use std::{fmt, io};
 
 // The plan of a text that is one; else the smallest plan.
 fn plan_of(text: &[u8]) -> Plan {
@@ -22,39 +22,37 @@ fn plan_of(text: &[u8]) -> Plan {
     plan
 }
 
-fn show_number(rt: &HostRuntime, call: &str, answer: Result<u32, Refusal>) -> io::Result<()> {
-    match answer {
-        Ok(n) => println!(rt; "{call} {n}"),
-        Err(why) => println!(rt; "{call} no {}", why.number()),
+// An answer as it is printed.
+#[derive(Drop)]
+struct Shown<T>(T);
+
+impl fmt::Display for Shown<Asked> {
+    fn fmt<W: fmt::Write>(&self, f: &mut fmt::Formatter<W>) -> fmt::Result {
+        match self.0 {
+            Asked::Hold => write!(f, "hold"),
+            Asked::Wait => write!(f, "wait"),
+            Asked::Back => write!(f, "back"),
+        }
     }
 }
 
-fn show_asked(rt: &HostRuntime, call: &str, answer: Result<Asked, Refusal>) -> io::Result<()> {
-    match answer {
-        Ok(Asked::Hold) => println!(rt; "{call} hold"),
-        Ok(Asked::Wait) => println!(rt; "{call} wait"),
-        Ok(Asked::Back) => println!(rt; "{call} back"),
-        Err(why) => println!(rt; "{call} no {}", why.number()),
+impl fmt::Display for Shown<Finished> {
+    fn fmt<W: fmt::Write>(&self, f: &mut fmt::Formatter<W>) -> fmt::Result {
+        let Finished { blocked, issued } = self.0;
+        match issued {
+            Some(next) => write!(f, "{blocked} {} {}", next.task, next.holds),
+            None => write!(f, "{blocked} -"),
+        }
     }
 }
 
-fn show_finished(
+fn show<T: fmt::Display + Drop>(
     rt: &HostRuntime,
     call: &str,
-    answer: Result<Finished, Refusal>,
+    answer: Result<T, Refusal>,
 ) -> io::Result<()> {
     match answer {
-        Ok(done) => match done.issued {
-            Some(next) => println!(rt; "{call} {} {} {}", done.blocked, next.task, next.holds),
-            None => println!(rt; "{call} {} -", done.blocked),
-        },
-        Err(why) => println!(rt; "{call} no {}", why.number()),
-    }
-}
-
-fn show_limit(rt: &HostRuntime, call: &str, answer: Result<u64, Refusal>) -> io::Result<()> {
-    match answer {
-        Ok(n) => println!(rt; "{call} {n}"),
+        Ok(value) => println!(rt; "{call} {value}"),
         Err(why) => println!(rt; "{call} no {}", why.number()),
     }
 }
@@ -72,8 +70,8 @@ fn settle(claim: Claim) -> Result<u32, Refusal> {
     let plan = Plan::new();
     let mut idle = Controller::new(&plan, ReadersWriters::new(&plan));
     match give(&mut idle, claim) {
-        Given::Spent(answer) => answer,
-        Given::Back(_) => unreachable(),
+        Ok(answer) => answer,
+        Err(_) => unreachable(),
     }
 }
 
@@ -89,45 +87,33 @@ struct Claimed {
 
 // Task 1 asks with a claim, and gives it back at once; if it is handed back, again after task 0 gave.
 fn by_claim<B: Bank>(c: &mut Controller<B>, resource: u32) -> Result<Claimed, Refusal> {
-    match ask(c, 1, resource, Mode::Write) {
-        Ok((asked, claim)) => {
-            let ticked = c.tick();
-            match give(c, claim) {
-                Given::Spent(gave) => Ok(Claimed {
-                    asked,
-                    ticked,
-                    other: None,
-                    gave,
-                }),
-                Given::Back(claim) => {
-                    let other = c.give(0);
-                    let gave = match give(c, claim) {
-                        Given::Spent(gave) => gave,
-                        Given::Back(again) => settle(again),
-                    };
-                    Ok(Claimed {
-                        asked,
-                        ticked,
-                        other: Some(other),
-                        gave,
-                    })
-                }
-            }
+    let (asked, claim) = ask(c, 1, resource, Mode::Write)?;
+    let ticked = c.tick();
+    let (other, gave) = match give(c, claim) {
+        Ok(gave) => (None, gave),
+        Err(claim) => {
+            let other = c.give(0);
+            (Some(other), give(c, claim).unwrap_or_else(settle))
         }
-        Err(why) => Err(why),
-    }
+    };
+    Ok(Claimed {
+        asked,
+        ticked,
+        other,
+        gave,
+    })
 }
 
 fn show_claimed(rt: &HostRuntime, answer: Result<Claimed, Refusal>) -> io::Result<()> {
     match answer {
         Ok(done) => {
-            show_asked(rt, "claim 1", Ok(done.asked))?;
-            show_number(rt, "tick", done.ticked)?;
+            println!(rt; "claim 1 {}", Shown(done.asked))?;
+            show(rt, "tick", done.ticked)?;
             if let Some(other) = done.other {
                 println!(rt; "handed back")?;
-                show_number(rt, "give 0", other)?;
+                show(rt, "give 0", other)?;
             }
-            show_number(rt, "give 1", done.gave)
+            show(rt, "give 1", done.gave)
         }
         Err(why) => println!(rt; "claim 1 no {}", why.number()),
     }
@@ -140,17 +126,17 @@ fn work<B: Bank>(
     resource: u32,
     mode: Mode,
 ) -> io::Result<()> {
-    show_limit(rt, "limit W", c.wait_limit(resource, Mode::Write))?;
-    show_limit(rt, "limit R", c.wait_limit(resource, Mode::Read))?;
+    show(rt, "limit W", c.wait_limit(resource, Mode::Write))?;
+    show(rt, "limit R", c.wait_limit(resource, Mode::Read))?;
     show_nearest(rt, c.nearest_end())?;
-    show_number(rt, "release 0", c.release(0))?;
-    show_number(rt, "release 1", c.release(1))?;
-    show_asked(rt, "ask 0", c.ask(0, resource, mode))?;
+    show(rt, "release 0", c.release(0))?;
+    show(rt, "release 1", c.release(1))?;
+    show(rt, "ask 0", c.ask(0, resource, mode).map(Shown))?;
     show_nearest(rt, c.nearest_end())?;
     show_claimed(rt, by_claim(c, resource))?;
-    show_finished(rt, "finish 0", c.finish(0))?;
-    show_finished(rt, "finish 1", c.finish(1))?;
-    show_number(rt, "tick", c.tick())
+    show(rt, "finish 0", c.finish(0).map(Shown))?;
+    show(rt, "finish 1", c.finish(1).map(Shown))?;
+    show(rt, "tick", c.tick())
 }
 
 fn main(rt: HostRuntime) -> io::Result<()> {

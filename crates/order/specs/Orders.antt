@@ -1,8 +1,10 @@
 -- What is there comes before what is absent.
-use Rattle.std.specs.Prelude.{Bool, true, false, Some, None, Option}
+use Rattle.std.specs.Prelude.{Some, None, Option}
+use Rattle.std.specs.declared.cmp.Ordering.{Ordering}
+use Rattle.std.specs.declared.cmp.Ordering.TheVariants.{Less, Equal, Greater}
 
-abbrev pub before_option : {A : Type 0} → (A → A → Bool) → Option A → Option A → Bool
-before_option before (Some x) (Some y) = before x y
-before_option before (Some x) None = true
-before_option before None (Some y) = false
-before_option before None None = false
+abbrev pub absent_last : {A : Type 0} → (A → A → Ordering) → Option A → Option A → Ordering
+absent_last order (Some x) (Some y) = order x y
+absent_last order (Some x) None = Less
+absent_last order None (Some y) = Greater
+absent_last order None None = Equal

@@ -1,69 +1,71 @@
-ghost use Rattle.std.specs.Prelude.{if◌then◌else◌, nat_eq, nat_lt};
-ghost use Rattle.order.specs.Orders.{before_option};
-ghost use Rattle.std.proofs.Common.{rules};
+ghost use Rattle.std.specs.Cmp.{on_total, partial_order_from_agreeing_total};
+ghost use Rattle.std.specs.Ordering.{as_partial_cmp, on};
+ghost use Rattle.std.specs.Prelude.{◌≡◌, if◌then◌else◌, nat_eq, nat_lt, refl};
+ghost use Rattle.order.specs.Laws.{absent_last_total, absent_last_ties};
+ghost use Rattle.order.specs.Orders.{absent_last};
 
-use crate::order::Ordered;
+use std::cmp::Ordering;
 
 /// A job, by its release number.
-#[derive(Clone, Copy)]
+#[derive(Clone, Copy, Debug, PartialEq, Eq, PartialOrd, Ord)]
 pub struct Job {
     pub release: u32,
 }
 
-impl Ordered for Job {
-    ghost before = { λ x y. nat_lt x.release y.release };
-
-    ghost oneway = { Prim.search rules };
-
-    ghost chain = { Prim.search rules };
-
-    ghost apart = { Prim.search rules };
-
-    fn precedes(&self, other: &Job) -> bool {
-        self.release < other.release
+impl Job {
+    /// Whether it was released before the other job.
+    pub fn precedes(&self, job: &Job) -> bool
+        ensures { result ≡ nat_lt self.now.release job.now.release }
+    {
+        self < job
     }
 }
 
 /// A holder, by the ticks that it has left and then by its task.
-#[derive(Clone, Copy)]
+#[derive(Clone, Copy, Debug, PartialEq, Eq, PartialOrd, Ord)]
 pub struct Holder {
     pub left: u32,
     pub task: u32,
 }
 
-impl Ordered for Holder {
-    ghost before = { λ x y. (if nat_eq x.left y.left then nat_lt x.task y.task else nat_lt x.left y.left) };
+impl Holder {
+    /// Whether it has fewer ticks left than the other holder, or as many and a lower task.
+    pub fn precedes(&self, holder: &Holder) -> bool
+        ensures { result ≡ (if nat_eq self.now.left holder.now.left then nat_lt self.now.task holder.now.task else nat_lt self.now.left holder.now.left) }
+    {
+        self < holder
+    }
+}
 
-    ghost oneway = { Prim.search rules };
+/// What may be absent: what is there comes before what is absent.
+#[derive(Clone, Copy, Debug, PartialEq, Eq)]
+pub struct AbsentLast<T>(pub Option<T>);
 
-    ghost chain = { Prim.search rules };
+impl<T: Ord> Ord for AbsentLast<T> {
+    ghost cmp = { on (λ x. x.0) (absent_last T.cmp) };
 
-    ghost apart = { Prim.search rules };
+    ghost total = { on_total (λ x. x.0) (absent_last_total T.Ord.total) };
 
-    fn precedes(&self, other: &Holder) -> bool {
-        if self.left == other.left {
-            self.task < other.task
-        } else {
-            self.left < other.left
+    ghost matches_partial_cmp = { λ x y. refl };
+
+    ghost matches_eq = { λ x y. absent_last_ties T.cmp T.Ord.matches_eq x.0 y.0 };
+
+    fn cmp(&self, other: &AbsentLast<T>) -> Ordering {
+        match (&self.0, &other.0) {
+            (Some(x), Some(y)) => x.cmp(y),
+            (Some(_), None) => Ordering::Less,
+            (None, Some(_)) => Ordering::Greater,
+            (None, None) => Ordering::Equal,
         }
     }
 }
 
-// What is there comes before what is absent.
-impl<T: Ordered> Ordered for Option<T> {
-    ghost before = { before_option T.Ordered.before };
+impl<T: Ord> PartialOrd for AbsentLast<T> {
+    ghost partial_cmp = { as_partial_cmp (on (λ x. x.0) (absent_last T.cmp)) };
 
-    ghost oneway = { Prim.search rules };
+    ghost laws = { partial_order_from_agreeing_total (on (λ x. x.0) (absent_last T.cmp)) (on_total (λ x. x.0) (absent_last_total T.Ord.total)) (λ x y. refl) (λ x y. absent_last_ties T.cmp T.Ord.matches_eq x.0 y.0) };
 
-    ghost chain = { Prim.search rules };
-
-    ghost apart = { Prim.search rules };
-
-    fn precedes(&self, other: &Option<T>) -> bool {
-        match (self, other) {
-            (Some(x), Some(y)) => x.precedes(y),
-            (Some(_), None) => true,
-            (None, _) => false,
-        }
+    fn partial_cmp(&self, other: &AbsentLast<T>) -> Option<Ordering> {
+        Some(self.cmp(other))
     }
 }

@@ -2,5 +2,4 @@
 #![tactic(auto)]
 
 pub mod elements;
-pub mod order;
 pub mod row;

@@ -1,47 +1,24 @@
-ghost use Rattle.std.specs.Prelude.{◌≡◌, ◌<◌, length, Some, None, count_by};
+ghost use Rattle.std.specs.Prelude.{◌≡◌, length, Some, None, count_by};
 ghost use Rattle.std.specs.List.{IsFirstBest};
-
-use crate::order::Ordered;
-
-fn count<T: Ordered>(row: &[T], x: &T) -> usize
-    ensures { result ≡ count_by (λ y. T.before y x.now) row.now }
-{
-    let mut n = 0;
-    for y in row {
-        if y.precedes(x) {
-            n += 1;
-        }
-    }
-    n
-}
+ghost use Rattle.std.specs.Ordering.{is_lt};
 
 /// How many of a row come before x.
-pub fn count_before<T: Ordered>(row: &[T], x: &T) -> usize
-    ensures { result ≡ count_by (λ y. T.before y x.now) row.now }
+pub fn count_before<T: Ord>(row: &[T], x: &T) -> usize
+    ensures { result ≡ count_by (λ y. is_lt (T.cmp y x.now)) row.now }
 {
-    count(row, x)
-}
-
-// The place of the first of a row that has one.
-fn first_place<T: Ordered>(row: &[T]) -> usize
-    requires { 0 < length row.now }
-    ensures { IsFirstBest T.before row.now (length row.now) result }
-{
-    let mut best = 0;
-    for i in 1..row.len() {
-        if row[i].precedes(&row[best]) {
-            best = i;
-        }
-    }
-    best
+    row.iter().filter(|y| *y < x).count()
 }
 
 /// The place of the first of a row, if it has any.
-pub fn first_of<T: Ordered>(row: &[T]) -> Option<usize>
-    ensures { elim result [ None ↦ length row.now ≡ 0 | Some b ↦ IsFirstBest T.before row.now (length row.now) b ] }
+pub fn first_of<T: Ord>(row: &[T]) -> Option<usize>
+    ensures { elim result [ None ↦ length row.now ≡ 0 | Some b ↦ IsFirstBest (λ x y. is_lt (T.cmp x y)) row.now (length row.now) b ] }
 {
-    if row.len() == 0 {
-        return None;
+    let mut best = None;
+    for (i, x) in row.iter().enumerate() {
+        match best {
+            Some((_, least)) if least <= x => {}
+            _ => best = Some((i, x)),
+        }
     }
-    Some(first_place(row))
+    best.map(|(i, _)| i)
 }

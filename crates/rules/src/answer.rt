@@ -1,5 +1,5 @@
 /// What an ask is answered.
-#[derive(Clone, Copy)]
+#[derive(Clone, Copy, Debug, PartialEq, Eq)]
 pub enum Asked {
     /// The request was issued and holds.
     Hold,
@@ -10,14 +10,14 @@ pub enum Asked {
 }
 
 /// A request that a finish issued: its task, and whether it holds.
-#[derive(Clone, Copy)]
+#[derive(Clone, Copy, Debug, PartialEq, Eq)]
 pub struct Issued {
     pub task: u32,
     pub holds: bool,
 }
 
 /// What a finish is answered: the ticks on which the job was blocked, and the request that was issued thereby.
-#[derive(Clone, Copy)]
+#[derive(Clone, Copy, Debug, PartialEq, Eq)]
 pub struct Finished {
     pub blocked: u32,
     pub issued: Option<Issued>,

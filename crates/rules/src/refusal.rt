@@ -1,5 +1,6 @@
 ghost use Rattle.std.specs.Prelude.{◌≡◌};
 ghost use Rattle.rules.specs.Refusals.{number};
+ghost use Rattle.rules.specs.declared.refusal.Refusal.TheVariants.{Bank};
 
 use bank::refusal::Refusal as BankRefusal;
 
@@ -54,5 +55,13 @@ impl Refusal {
             Refusal::NoFit => 24,
             Refusal::Bank(why) => why.number(),
         }
+    }
+}
+
+impl From<BankRefusal> for Refusal {
+    ghost from_gives = { λ why refusal. refusal ≡ Bank why };
+
+    fn from(why: BankRefusal) -> Refusal {
+        Refusal::Bank(why)
     }
 }

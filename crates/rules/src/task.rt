@@ -31,3 +31,13 @@ pub struct Task {
     pub used: u32,
     pub blocked: u32,
 }
+
+impl Task {
+    /// The record of a task without a job.
+    pub const IDLE: Task = Task {
+        state: State::Idle,
+        release: 0,
+        used: 0,
+        blocked: 0,
+    };
+}

@@ -1,3 +1,4 @@
 pub mod Firsts
+pub mod Orders
 pub mod Ranks
 pub mod Rows

@@ -1,17 +1,20 @@
 -- The jobs before one, counted in a row and over all tasks.
-use Rattle.std.proofs.Common.{◌≡◌, ℕ, zero, suc, ◌<◌, ◌≤◌, Bool, true, false, cond, ◌&&◌, eqb, ltb, ◌⊎◌, List, length, get_or, Some, None, count_by, Option, sym, refl, ap, ◌∙◌, inl, inr, ⊎_elim, arith}
-use Rattle.std.proofs.lemmas.Bool.{cases_lt, cases_eq, cond-false, le-ltb, and_left}
-use Rattle.order.specs.Orders.{before_option}
+use Rattle.std.proofs.Common.{◌≡◌, ℕ, zero, suc, ◌<◌, ◌≤◌, Bool, true, false, cond, ◌&&◌, eqb, ltb, ◌⊎◌, List, length, get_or, Some, None, count_by, sym, refl, ap, ◌∙◌, inl, inr, ⊎_elim, arith}
+use Rattle.std.proofs.lemmas.Bool.{cases_lt, cases_eq, cond-false, le-ltb}
+use Rattle.std.specs.Ordering.{is_lt}
+use Rattle.order.specs.Orders.{absent_last}
+use Rattle.order.specs.declared.elements.AbsentLast.{AbsentLast}
 use Rattle.order.specs.declared.elements.Job.{Job}
 use Rattle.plan.specs.Contents.{Contents}
 use Rattle.rules.specs.Jobs.{count_below}
-use Rattle.rules.specs.States.{is_holding, idle_task}
+use Rattle.rules.specs.States.{idle_task}
 use Rattle.rules.specs.declared.task.State.TheVariants.{Idle}
 use Rattle.rules.specs.declared.task.Task.{Task}
 use Rattle.rules.proofs.Counts.{count_list, count_same}
-use Rattle.table.specs.Rows.{tasks_in, selects, job_at, holder_at, comes_before, ranks_among}
+use Rattle.table.specs.Rows.{tasks_in, selects, job_at, comes_before}
 use Rattle.table.specs.declared.selection.Selection.{Selection}
 use Rattle.table.specs.declared.selection.Selection.TheVariants.{Unfinished, Ready, HeldBack}
+use Rattle.table.proofs.Orders.{nothing, before_by, job_order, is_lt_nat}
 use Rattle.table.proofs.Rows.{past_end}
 
 -- tasks behind the counted ones, and behind the records, are idle
@@ -27,13 +30,6 @@ pub idle_unselected : (which : Selection) → selects which Idle ≡ false
 idle_unselected Unfinished = refl
 idle_unselected Ready = refl
 idle_unselected HeldBack = refl
-
--- the row of jobs, and that of holders, has nothing there
-pub job_past : (p : Contents) (n : ℕ) (rows : List Task) (which : Selection) (g q : ℕ) → n ≤ q → job_at p n rows which g q ≡ None
-job_past p n rows which g q h = cond-false _ _ _ (and_left (selects which (tasks_in n rows q).state) _ (ap (λ (t : Task). selects which t.state) (tasks_past n rows q (inl h)) ∙ idle_unselected which))
-
-pub holder_past : (p : Contents) (n : ℕ) (rows : List Task) (q : ℕ) → n ≤ q → holder_at p n rows q ≡ None
-holder_past p n rows q h = cond-false _ _ _ (ap (λ (t : Task). is_holding t.state) (tasks_past n rows q (inl h)))
 
 -- where nothing passes from m on
 pub count_past : (test : ℕ → Bool) (m n : ℕ) → m ≤ n → ((k : ℕ) → m ≤ k → test k ≡ false) → count_below test n ≡ count_below test m
@@ -52,24 +48,20 @@ count_either test m n none =
     (λ (g : n ≤ m). count_past test n m g (λ k h. none k (inr h)))
     (cases_lt m n)
 
-before_job : (a b : Bool) (x job : Job) → before_option (λ (x y : Job). ltb x.release y.release) (cond (a && b) (Some x) None) (Some job) ≡ (a && (b && ltb x.release job.release))
-before_job true true x job = refl
+before_job : (a b : Bool) (x job : Job) → is_lt (absent_last job_order (cond (a && b) (Some x) None) (Some job)) ≡ (a && (b && ltb x.release job.release))
+before_job true true x job = is_lt_nat x.release job.release
 before_job true false x job = refl
 before_job false b x job = refl
 
-pub jobs_counted : (p : Contents) (n : ℕ) (rows : List Task) (which : Selection) (g : ℕ) (job : Job) (row : List (Option Job)) → length rows ≡ 64 → length row ≡ 64 → ((q : ℕ) → q < 64 → get_or row q None ≡ job_at p n rows which g q)
-    → count_by (λ y. before_option (λ (x y : Job). ltb x.release y.release) y (Some job)) row ≡ count_below (comes_before p n rows which g job.release) n
+pub jobs_counted : (p : Contents) (n : ℕ) (rows : List Task) (which : Selection) (g : ℕ) (job : Job) (row : List (AbsentLast Job)) → length rows ≡ 64 → length row ≡ 64 → ((q : ℕ) → q < 64 → (get_or row q nothing).0 ≡ job_at p n rows which g q)
+    → count_by (λ y. before_by job_order y (record { 0 = Some job })) row ≡ count_below (comes_before p n rows which g job.release) n
 jobs_counted p n rows which g job row all long jobs =
-    let first : Option Job → Bool = λ y. before_option (λ (x y : Job). ltb x.release y.release) y (Some job) in
+    let first : AbsentLast Job → Bool = λ y. before_by job_order y (record { 0 = Some job }) in
     let test : ℕ → Bool = comes_before p n rows which g job.release in
-    count_list first row None
-    ∙ (ap (count_below (λ i. first (get_or row i None))) long
-    ∙ (count_same (λ i. first (get_or row i None)) test 64 (λ q lt. ap first (jobs q lt) ∙ before_job (selects which (tasks_in n rows q).state) (eqb (get_or p.tasks q 0) g) (record { release = (tasks_in n rows q).release }) job)
+    count_list first row nothing
+    ∙ (ap (count_below (λ i. first (get_or row i nothing))) long
+    ∙ (count_same (λ i. first (get_or row i nothing)) test 64 (λ q lt. ap (λ o. is_lt (absent_last job_order o (Some job))) (jobs q lt) ∙ before_job (selects which (tasks_in n rows q).state) (eqb (get_or p.tasks q 0) g) (record { release = (tasks_in n rows q).release }) job)
     ∙ count_either test 64 n (λ k far. none k (⊎_elim (λ (a : 64 ≤ k). inr (omega arith)) (λ (b : n ≤ k). inl b) far))))
   where
     none : (k : ℕ) → (n ≤ k) ⊎ (length rows ≤ k) → comes_before p n rows which g job.release k ≡ false
     none k far = ap (λ (t : Task). selects which t.state && (eqb (get_or p.tasks k 0) g && ltb t.release job.release)) (tasks_past n rows k far) ∙ ap (λ b. b && (eqb (get_or p.tasks k 0) g && ltb 0 job.release)) (idle_unselected which)
-
--- a task behind the records ranks nowhere
-pub unranked : (p : Contents) (n : ℕ) (rows : List Task) (which : Selection) (t : ℕ) → length rows ≤ t → false ≡ ranks_among p n rows which t
-unranked p n rows which t far = sym (and_left (selects which (tasks_in n rows t).state) _ (ap (λ (k : Task). selects which k.state) (tasks_past n rows t (inr far)) ∙ idle_unselected which))

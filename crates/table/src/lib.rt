@@ -6,3 +6,4 @@ pub mod jobs;
 pub mod next;
 pub mod records;
 pub mod selection;
+pub mod table;

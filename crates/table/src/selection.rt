@@ -3,8 +3,8 @@ ghost use Rattle.table.specs.Rows.{selects};
 
 use rules::task::State;
 
-/// Which of the jobs are looked at.
-#[derive(Clone, Copy)]
+/// Which of the jobs are looked at. An enum and no closure, since the definitions of specs say what each case selects.
+#[derive(Clone, Copy, Debug, PartialEq, Eq)]
 pub enum Selection {
     Unfinished,
     Ready,
@@ -16,13 +16,10 @@ impl Selection {
     pub fn has(self, state: State) -> bool
         ensures { result ≡ selects self state }
     {
-        match (self, state) {
-            (_, State::Idle) => false,
-            (Selection::Unfinished, _) => true,
-            (Selection::Ready, State::Going | State::Holding(_)) => true,
-            (Selection::Ready, State::HeldBack(_) | State::Waiting(_)) => false,
-            (Selection::HeldBack, State::HeldBack(_)) => true,
-            (Selection::HeldBack, State::Going | State::Waiting(_) | State::Holding(_)) => false,
+        match self {
+            Selection::Unfinished => !matches!(state, State::Idle),
+            Selection::Ready => matches!(state, State::Going | State::Holding(_)),
+            Selection::HeldBack => matches!(state, State::HeldBack(_)),
         }
     }
 }

@@ -9,13 +9,12 @@ ghost use Rattle.rules.specs.Questions.{ask_questions};
 
 use crate::call::Call;
 use crate::controller::Controller;
-use crate::state::{asked_state, in_state};
+use crate::state::{asked_state, in_state, issued};
 use bank::meaning::Bank;
 use bank::request::Mode;
 use rules::answer::Asked;
 use rules::refusal::Refusal;
 use rules::task::Wanted;
-use table::jobs::is_first;
 
 // A request is issued where the job is among the first, and else held back.
 fn issue<B: Bank>(
@@ -32,11 +31,7 @@ fn issue<B: Bank>(
     if !first {
         return Ok(Asked::Back);
     }
-    match bank.enter(resource, task, mode) {
-        Ok(true) => Ok(Asked::Hold),
-        Ok(false) => Ok(Asked::Wait),
-        Err(why) => Err(Refusal::Bank(why)),
-    }
+    Ok(issued(bank.enter(resource, task, mode)?))
 }
 
 impl<B: Bank> Controller<B> {
@@ -48,15 +43,10 @@ impl<B: Bank> Controller<B> {
         if t >= self.tasks {
             return Err(Refusal::NoTask);
         }
-        if resource >= self.resources || resource >= self.bank.resources() {
-            return Err(Refusal::NoResource);
-        }
-        if let Err(_) = self.bank.turn_limit(resource, mode) {
-            return Err(Refusal::NoMode);
-        }
-        if let None = self.plan.length(t, resource as usize) {
-            return Err(Refusal::NoLength);
-        }
+        self.turns(resource, mode)?;
+        self.plan
+            .length(t, resource as usize)
+            .ok_or(Refusal::NoLength)?;
         self.check(task, Call::Ask)
     }
 
@@ -67,11 +57,8 @@ impl<B: Bank> Controller<B> {
     {
         self.check_ask(task, resource, mode)?;
         let t = task as usize;
-        let first = is_first(&self.plan, self.tasks, &self.table.rows, t);
-        let answer = match issue(&mut self.bank, first, task, resource, mode) {
-            Ok(answer) => answer,
-            Err(why) => return Err(why),
-        };
+        let first = self.jobs().is_first(t);
+        let answer = issue(&mut self.bank, first, task, resource, mode)?;
         let state = asked_state(answer, Wanted { resource, mode });
         let record = in_state(self.table.rows[t], state);
         self.table.store(t, record);

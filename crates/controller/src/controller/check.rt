@@ -8,7 +8,6 @@ use crate::call::{Call, admits};
 use crate::controller::Controller;
 use bank::meaning::Bank;
 use rules::refusal::Refusal;
-use table::jobs::runs;
 
 impl<B: Bank> Controller<B> {
     // Whether the job of a task runs, for a call that asks for it.
@@ -17,7 +16,7 @@ impl<B: Bank> Controller<B> {
         ensures same { (state : Status) → admit_questions call result state ≡ admit_questions call (runs (setup_of B.Bank self.now) (jobs_in (snapshot_of B.Bank self.now)) t) state }
     {
         match call {
-            Call::Ask | Call::Finish => runs(&self.plan, self.tasks, &self.table.rows, t),
+            Call::Ask | Call::Finish => self.jobs().runs(t),
             Call::Release | Call::Give => false,
         }
     }

@@ -10,25 +10,22 @@ ghost use Rattle.table.specs.Rows.{next_of, setup_with, tasks_in};
 
 use crate::call::Call;
 use crate::controller::Controller;
-use crate::state::{in_state, issued_state, wanted_of};
+use crate::state::{asked_state, in_state, issued, wanted_of};
 use bank::meaning::Bank;
-use plan::plan::Plan;
 use rules::answer::{Finished, Issued};
 use rules::refusal::Refusal;
-use rules::task::{State, Task};
-use table::next::next_issued;
+use rules::task::Task;
 use table::records::Records;
+use table::table::Table;
 
 // The task whose request is issued, where the job of a task has ended.
-fn next_task(plan: &Plan, tasks: usize, rows: &[Task; 64], task: usize) -> Option<u32>
-    requires { tasks ≤ 64 }
-    ensures next { (told : Told) (k : ℕ) → result ≡ next_of (setup_with (plan_contents plan.now) told tasks k) (tasks_in tasks rows.now) task }
-    ensures known { IsNext tasks (tasks_in tasks rows.now) result }
+fn next_task(jobs: &Table, task: usize) -> Option<u32>
+    requires { jobs.now.tasks ≤ 64 }
+    ensures next { (told : Told) (k : ℕ) → result ≡ next_of (setup_with (plan_contents jobs.now.plan.now) told jobs.now.tasks k) (tasks_in jobs.now.tasks jobs.now.rows.now) task }
+    ensures known { IsNext jobs.now.tasks (tasks_in jobs.now.tasks jobs.now.rows.now) result }
 {
-    match next_issued(plan, tasks, rows, task) {
-        Some(next) => Some(next as u32),
-        None => None,
-    }
+    let next = jobs.next_issued(task)?;
+    Some(next as u32)
 }
 
 impl<B: Bank> Controller<B> {
@@ -41,36 +38,28 @@ impl<B: Bank> Controller<B> {
         let t = task as usize;
         let mut rows = self.table.rows;
         let blocked = rows[t].blocked;
-        rows[t] = Task {
-            state: State::Idle,
-            release: 0,
-            used: 0,
-            blocked: 0,
+        rows[t] = Task::IDLE;
+        let ended = Table {
+            plan: &self.plan,
+            tasks: self.tasks,
+            rows: &rows,
         };
-        match next_task(&self.plan, self.tasks, &rows, t) {
-            None => {
-                self.table = Records { rows };
-                Ok(Finished {
-                    blocked,
-                    issued: None,
-                })
-            }
-            Some(next) => {
-                let job = rows[next as usize];
-                let wanted = wanted_of(job.state);
-                match self.bank.enter(wanted.resource, next, wanted.mode) {
-                    Ok(holds) => {
-                        rows[next as usize] = in_state(job, issued_state(holds, wanted));
-                        self.table = Records { rows };
-                        Ok(Finished {
-                            blocked,
-                            issued: Some(Issued { task: next, holds }),
-                        })
-                    }
-                    Err(why) => Err(Refusal::Bank(why)),
-                }
-            }
-        }
+        let Some(next) = next_task(&ended, t) else {
+            self.table = Records { rows };
+            return Ok(Finished {
+                blocked,
+                issued: None,
+            });
+        };
+        let job = rows[next as usize];
+        let wanted = wanted_of(job.state);
+        let holds = self.bank.enter(wanted.resource, next, wanted.mode)?;
+        rows[next as usize] = in_state(job, asked_state(issued(holds), wanted));
+        self.table = Records { rows };
+        Ok(Finished {
+            blocked,
+            issued: Some(Issued { task: next, holds }),
+        })
     }
 
     /// The running job of a task ends. Answers the ticks on which it was blocked, and the request that is issued thereby.

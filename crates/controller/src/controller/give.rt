@@ -7,7 +7,7 @@ ghost use Rattle.rules.specs.Runs.{Follows};
 
 use crate::call::Call;
 use crate::controller::Controller;
-use crate::state::in_state;
+use crate::state::{in_state, wanted_of};
 use bank::meaning::Bank;
 use rules::refusal::Refusal;
 use rules::task::{State, Task};
@@ -25,15 +25,8 @@ fn let_in<B: Bank>(bank: &B, resource: u32, task: u32, job: Task) -> Task
         return job;
     }
     match bank.request_of(resource, task) {
-        Ok(Some(request)) => {
-            if request.holds {
-                in_state(job, State::Holding(wanted))
-            } else {
-                job
-            }
-        }
-        Ok(None) => job,
-        Err(_) => unreachable(),
+        Ok(Some(request)) if request.holds => in_state(job, State::Holding(wanted)),
+        _ => job,
     }
 }
 
@@ -43,6 +36,7 @@ fn let_in_all<B: Bank>(bank: &B, resource: u32, tasks: usize, rows: &[Task; 64])
     ensures { LetsIn tasks resource (B.Bank.active bank.now resource) rows.now result }
 {
     let mut new = *rows;
+    // the form fixed for the controller: a loop with an index over its table
     for t in 0..tasks {
         new[t] = let_in(bank, resource, t as u32, rows[t]);
     }
@@ -58,12 +52,8 @@ impl<B: Bank> Controller<B> {
         self.check(task, Call::Give)?;
         let t = task as usize;
         let job = self.table.rows[t];
-        let State::Holding(wanted) = job.state else {
-            return Err(Refusal::NotHolding);
-        };
-        if let Err(why) = self.bank.leave(wanted.resource, task) {
-            return Err(Refusal::Bank(why));
-        }
+        let wanted = wanted_of(job.state);
+        self.bank.leave(wanted.resource, task)?;
         let mut rows = self.table.rows;
         rows[t] = in_state(job, State::Going);
         let rows = let_in_all(&self.bank, wanted.resource, self.tasks, &rows);

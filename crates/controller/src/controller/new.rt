@@ -1,4 +1,4 @@
-ghost use Rattle.std.specs.Prelude.{◌≡◌, ℕ, ◌<◌, ◌≤◌, length};
+ghost use Rattle.std.specs.Prelude.{◌≡◌, ◌↔◌, IsTrue, ℕ, ◌<◌, ◌≤◌, length};
 ghost use Rattle.controller.specs.Checks.{Checked};
 ghost use Rattle.controller.specs.Of.{setup_of, snapshot_of};
 ghost use Rattle.plan.specs.Contents.{resource_count};
@@ -13,7 +13,7 @@ use bank::meaning::Bank;
 use plan::plan::Plan;
 use plan::resource::Resource;
 use rules::refusal::Refusal;
-use rules::task::{State, Task};
+use rules::task::Task;
 use table::records::Records;
 
 // Whether a resource of the bank has the plan's k and modes, and nobody active.
@@ -25,14 +25,17 @@ fn fits_at<B: Bank>(plan: &Plan, bank: &B, resource: u32) -> bool
         Some(Resource::Slots(k)) => (k as u32, false),
         Some(Resource::ReaderWriter) | None => (1, true),
     };
-    match (
-        bank.slots(resource),
-        bank.reads(resource),
-        bank.count(resource),
-    ) {
-        (Ok(slots), Ok(known), Ok(active)) => slots == k && known == reads && active == 0,
-        (_, _, _) => unreachable(),
-    }
+    bank.slots(resource).is_ok_and(|slots| slots == k)
+        && bank.reads(resource).is_ok_and(|known| known == reads)
+        && bank.count(resource).is_ok_and(|active| active == 0)
+}
+
+// Whether each of the first so many resources fits.
+fn each_fits<B: Bank>(plan: &Plan, bank: &B, resources: u32) -> bool
+    requires { resources ≤ (B.Bank.told bank.now).resources }
+    ensures { IsTrue result ↔ ((r : ℕ) → r < resources → IsTrue (fits_at (plan_contents plan.now) (B.Bank.told bank.now) (B.Bank.active bank.now) r)) }
+{
+    (0..resources).all(|r| fits_at(plan, bank, r))
 }
 
 // Whether a bank fits a plan.
@@ -40,15 +43,9 @@ fn fits_all<B: Bank>(plan: &Plan, bank: &B) -> bool
     ensures { result ≡ fits (plan_contents plan.now) (B.Bank.told bank.now) (B.Bank.active bank.now) }
 {
     let resources = bank.resources();
-    if resources as usize != plan.resources() || bank.seats() != plan.all_processors() {
-        return false;
-    }
-    for r in 0..resources {
-        if !fits_at(plan, bank, r) {
-            return false;
-        }
-    }
-    true
+    resources as usize == plan.resources()
+        && bank.seats() == plan.all_processors()
+        && each_fits(plan, bank, resources)
 }
 
 impl<B: Bank> Controller<B> {
@@ -79,12 +76,7 @@ impl<B: Bank> Controller<B> {
             tasks,
             resources,
             table: Records {
-                rows: [Task {
-                    state: State::Idle,
-                    release: 0,
-                    used: 0,
-                    blocked: 0,
-                }; 64],
+                rows: [Task::IDLE; 64],
             },
             clock: 0,
             releases: 0,

@@ -27,8 +27,7 @@ impl<B: Bank> Controller<B> {
             Task {
                 state: State::Going,
                 release: number,
-                used: 0,
-                blocked: 0,
+                ..Task::IDLE
             },
         );
         self.releases = number + 1;

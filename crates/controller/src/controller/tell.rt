@@ -1,5 +1,5 @@
 ghost use Rattle.std.specs.Prelude.{◌≡◌};
-ghost use Rattle.controller.specs.Limits.{TellsLimit, nearest_end};
+ghost use Rattle.controller.specs.Limits.{TellsLimit, TellsTurns, nearest_end};
 ghost use Rattle.controller.specs.Of.{setup_of, snapshot_of};
 ghost use Rattle.rules.specs.States.{is_pending};
 
@@ -8,28 +8,34 @@ use bank::meaning::Bank;
 use bank::request::Mode;
 use rules::refusal::Refusal;
 use rules::task::State;
-use table::holders::nearest_end;
 
 impl<B: Bank> Controller<B> {
-    /// The most ticks for which a request in this mode waits at a resource.
-    pub fn wait_limit(&self, resource: u32, mode: Mode) -> Result<u64, Refusal>
-        ensures { TellsLimit (setup_of B.Bank self.now) resource mode result }
+    // The turn limit of a mode at a resource.
+    pub(crate) fn turns(&self, resource: u32, mode: Mode) -> Result<u32, Refusal>
+        ensures { TellsTurns (setup_of B.Bank self.now) resource mode result }
     {
         if resource >= self.resources || resource >= self.bank.resources() {
             return Err(Refusal::NoResource);
         }
+        self.bank
+            .turn_limit(resource, mode)
+            .map_err(|_| Refusal::NoMode)
+    }
+
+    /// The most ticks for which a request in this mode waits at a resource.
+    pub fn wait_limit(&self, resource: u32, mode: Mode) -> Result<u64, Refusal>
+        ensures { TellsLimit (setup_of B.Bank self.now) resource mode result }
+    {
+        let turns = self.turns(resource, mode)?;
         let longest = self.plan.longest(resource as usize).unwrap_or(0);
-        match self.bank.turn_limit(resource, mode) {
-            Ok(turns) => Ok(turns as u64 * longest as u64),
-            Err(_) => Err(Refusal::NoMode),
-        }
+        Ok(turns as u64 * longest as u64)
     }
 
     /// The task of the holder that has the fewest ticks left, of equal ones the lowest, and its ticks left.
     pub fn nearest_end(&self) -> Option<(u32, u32)>
         ensures { result ≡ nearest_end (setup_of B.Bank self.now) (snapshot_of B.Bank self.now) }
     {
-        nearest_end(&self.plan, self.tasks, &self.table.rows)
+        self.jobs().nearest_end()
     }
 
     /// Whether a task waits or is held back.
@@ -37,12 +43,10 @@ impl<B: Bank> Controller<B> {
         ensures { result ≡ is_pending ((snapshot_of B.Bank self.now).tasks task).state }
     {
         let t = task as usize;
-        if t >= self.tasks {
-            return false;
-        }
-        match self.table.rows[t].state {
-            State::HeldBack(_) | State::Waiting(_) => true,
-            State::Idle | State::Going | State::Holding(_) => false,
-        }
+        t < self.tasks
+            && matches!(
+                self.table.rows[t].state,
+                State::HeldBack(_) | State::Waiting(_)
+            )
     }
 }

@@ -26,17 +26,13 @@ impl<B: Bank> Controller<B> {
                     return None;
                 }
                 Some(Task {
-                    state: record.state,
-                    release: record.release,
                     used: record.used + 1,
-                    blocked: record.blocked,
+                    ..record
                 })
             }
             State::Waiting(_) => Some(Task {
-                state: record.state,
-                release: record.release,
-                used: record.used,
                 blocked: record.blocked + 1,
+                ..record
             }),
             State::Idle | State::Going | State::HeldBack(_) => Some(record),
         }
@@ -47,11 +43,9 @@ impl<B: Bank> Controller<B> {
         ensures { TicksAll (setup_of B.Bank self.now) (snapshot_of B.Bank self.now) result }
     {
         let mut rows = self.table.rows;
+        // the form fixed for the controller: a loop with an index over its table
         for t in 0..self.tasks {
-            match self.tick_task(t) {
-                Some(record) => rows[t] = record,
-                None => return Err(t as u32),
-            }
+            rows[t] = self.tick_task(t).ok_or(t as u32)?;
         }
         Ok(rows)
     }
@@ -61,10 +55,7 @@ impl<B: Bank> Controller<B> {
         ensures does { Does (setup_of B.Bank self.old) (snapshot_of B.Bank self.old) (ticked result) (snapshot_of B.Bank self.new) }
         ensures keeps { Unchanged result self.old self.new }
     {
-        let rows = match self.tick_all() {
-            Ok(rows) => rows,
-            Err(late) => return Err(Refusal::Late(late)),
-        };
+        let rows = self.tick_all().map_err(Refusal::Late)?;
         if self.clock >= 100_000_000 {
             return Err(Refusal::ClockEnds);
         }

@@ -1,5 +1,6 @@
 use Rattle.std.proofs.Common.{◌≡◌, ◌<◌, get_or, set, refl, ap, ◌∙◌, arith}
 use Rattle.std.proofs.lemmas.Bool.{ltb-true}
+use Rattle.std.proofs.lemmas.Result.{err_from_is_err_and}
 use Rattle.plan.specs.Of.{plan_contents}
 use Rattle.rules.specs.States.{idle_task, in_state, asked_state}
 use Rattle.rules.specs.declared.task.State.{State}
@@ -11,24 +12,26 @@ use Rattle.controller.proofs.Same.{same_controllers, same_setup}
 use Rattle.controller.proofs.Tasks.{tasks_moved}
 use Rattle.controller.proofs.controller.Controller.do_ask.Goals as goal
 
-pub returns-in-Err : goal.returns-in-Err
-returns-in-Err g c =
+pub returns-in_err-answer : goal.returns-in_err-answer
+returns-in_err-answer g c =
     let self = c.args.self.now in
     let b = g.B.Bank in
     let a = setup_of b self in
     let s = snapshot_of b self in
-    let e = c.in-Err.ensures in
-    record {
+    let e = c.in_err-answer.ensures in
+    let first = rw (c.jobs.ensures.plan, c.jobs.ensures.tasks, c.jobs.ensures.rows) at (c.is_first-first.ensures a.told a.resources) in
+    let p = err_from_is_err_and c.from_residual-in_err-answer.result c.from_residual-in_err-answer.ensures.1 in
+    rw (p.1, p.2) (record {
       setup = same_setup (plan_contents self.plan) self.tasks self.resources _ _ e.told;
       does =
           record {
-            answered = ask_refused a s c.args.task c.args.resource c.args.mode c.is_first-first.result c.in-Err.why _ (c.is_first-first.ensures a.told a.resources) c.in_ok-check_ask.ensures e.asks;
+            answered = ask_refused a s c.args.task c.args.resource c.args.mode c.is_first-first.result c.in_err-answer.field-0.0 _ first c.in_ok-check_ask.ensures e.asks;
             tasks = λ q. refl;
             clock = refl;
             releases = refl;
           };
       keeps = same_controllers _ self refl refl refl refl refl refl e.keeps;
-    }
+    })
 
 pub returns : goal.returns
 returns g c =
@@ -37,18 +40,19 @@ returns g c =
     let a = setup_of b self in
     let s = snapshot_of b self in
     let t = c.args.task in
-    let e = c.in-Ok.ensures in
+    let e = c.in_ok-answer.ensures in
     let known = c.in_ok-check_ask.ensures in
+    let first = rw (c.jobs.ensures.plan, c.jobs.ensures.tasks, c.jobs.ensures.rows) at (c.is_first-first.ensures a.told a.resources) in
     let lt : t < self.tasks = ltb-true _ _ (yes_parts 1 _ _ known).0 in
     let here : t < 64 = omega arith in
     let wanted : Wanted = record { resource = c.args.resource; mode = c.args.mode } in
-    let new : c.store.new.self.rows ≡ set self.table.rows t (in_state (asked_state c.in-Ok.answer wanted) (get_or self.table.rows t idle_task)) = c.store.ensures.stored here ∙ ap (set self.table.rows t) (c.in_state-record.ensures ∙ ap (λ (st : State). in_state st (get_or self.table.rows t idle_task)) c.asked_state-state.ensures) in
+    let new : c.store.new.self.rows ≡ set self.table.rows t (in_state (asked_state c.in_ok-answer.answer wanted) (get_or self.table.rows t idle_task)) = c.store.ensures.stored here ∙ ap (set self.table.rows t) (c.in_state-record.ensures ∙ ap (λ (st : State). in_state st (get_or self.table.rows t idle_task)) c.asked_state-state.ensures) in
     record {
       setup = same_setup (plan_contents self.plan) self.tasks self.resources _ _ e.told;
       does =
           record {
-            answered = ask_answered a s t c.args.resource c.args.mode c.is_first-first.result c.in-Ok.answer _ (c.is_first-first.ensures a.told a.resources) known e.asks;
-            tasks = tasks_moved self.tasks self.table.rows c.store.new.self.rows t (in_state (asked_state c.in-Ok.answer wanted)) lt self.few_tasks self.all_records new;
+            answered = ask_answered a s t c.args.resource c.args.mode c.is_first-first.result c.in_ok-answer.answer _ first known e.asks;
+            tasks = tasks_moved self.tasks self.table.rows c.store.new.self.rows t (in_state (asked_state c.in_ok-answer.answer wanted)) lt self.few_tasks self.all_records new;
             clock = refl;
             releases = refl;
           };

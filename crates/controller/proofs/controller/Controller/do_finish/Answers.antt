@@ -1,19 +1,20 @@
-use Rattle.std.proofs.Common.{◌≡◌, ℕ, ◌<◌, cond, eqb, length, get_or, set, sym, refl, ap, ◌∙◌, length-set}
+use Rattle.std.proofs.Common.{◌≡◌, ℕ, ◌<◌, cond, eqb, length, get_or, set, Some, None, sym, refl, ap, ◌∙◌, length-set}
 use Rattle.std.proofs.lemmas.Bool.{ltb-true}
+use Rattle.std.proofs.lemmas.Result.{err_from_is_err_and}
 use Rattle.plan.specs.Of.{plan_contents}
-use Rattle.rules.specs.States.{wanted_of, issued_state, in_state, idle_task}
+use Rattle.rules.specs.States.{wanted_of, asked_state, issued_state, in_state, idle_task}
 use Rattle.rules.specs.declared.task.State.{State}
 use Rattle.rules.specs.declared.task.Task.{Task}
 use Rattle.table.specs.Rows.{tasks_in}
 use Rattle.controller.specs.Of.{setup_of, snapshot_of}
 use Rattle.controller.proofs.Checking.{yes_parts}
-use Rattle.controller.proofs.Finishing.{next_same, next_other, finish_plain, finish_issued, finish_refused}
+use Rattle.controller.proofs.Finishing.{state_issued, next_same, next_other, finish_plain, finish_issued, finish_refused}
 use Rattle.controller.proofs.Same.{same_controllers, same_setup}
 use Rattle.controller.proofs.Tasks.{task_here, tasks_written, tasks_moved}
 use Rattle.controller.proofs.controller.Controller.do_finish.Goals as goal
 
-pub returns-in-None : goal.returns-in-None
-returns-in-None g c =
+pub returns-in_default : goal.returns-in_default
+returns-in_default g c =
     let self = c.args.self.now in
     let b = g.B.Bank in
     let a = setup_of b self in
@@ -27,7 +28,7 @@ returns-in-None g c =
       setup = refl;
       does =
           record {
-            answered = finish_plain a s t own (get_or rows t idle_task).blocked (c.in-None.ensures.next a.told a.resources ∙ next_same a s t (tasks_in self.tasks (set rows t idle_task)) ended) (ap (λ (k : Task). k.blocked) (sym (task_here self.tasks rows t lt)));
+            answered = finish_plain a s t own (get_or rows t idle_task).blocked (next_same a s t (tasks_in self.tasks (set rows t idle_task)) None (c.in_default.ensures.next a.told a.resources) ended) (ap (λ (k : Task). k.blocked) (sym (task_here self.tasks rows t lt)));
             tasks = ended;
             clock = refl;
             releases = refl;
@@ -35,8 +36,8 @@ returns-in-None g c =
       keeps = tt;
     }
 
-pub returns-in-Err : goal.returns-in-Err
-returns-in-Err g c =
+pub returns-in_err-holds : goal.returns-in_err-holds
+returns-in_err-holds g c =
     let self = c.args.self.now in
     let b = g.B.Bank in
     let a = setup_of b self in
@@ -46,25 +47,26 @@ returns-in-Err g c =
     let rows = self.table.rows in
     let own = c.in_ok-check.ensures in
     let next = c.in-Some.ensures in
-    let e = c.in-Err.ensures in
+    let e = c.in_err-holds.ensures in
     let lt : t < self.tasks = ltb-true _ _ (yes_parts 1 _ _ own).0 in
     let ended : (q : ℕ) → tasks_in self.tasks (set rows t idle_task) q ≡ cond (eqb t q) idle_task (tasks_in self.tasks rows q) = tasks_written self.tasks rows (set rows t idle_task) t idle_task lt self.few_tasks self.all_records refl in
     let there : tasks_in self.tasks (set rows t idle_task) u ≡ tasks_in self.tasks rows u = next_other _ _ (eqb t u) (ended u) next.known.1 in
     let wanted : c.wanted_of-wanted.result ≡ wanted_of (tasks_in self.tasks rows u).state = c.wanted_of-wanted.ensures ∙ ap (λ (k : Task). wanted_of k.state) (sym (task_here self.tasks (set rows t idle_task) u next.known.0) ∙ there) in
-    record {
+    let p = err_from_is_err_and c.from_residual-in_err-holds.result c.from_residual-in_err-holds.ensures.1 in
+    rw (p.1, p.2) (record {
       setup = same_setup (plan_contents self.plan) self.tasks self.resources _ _ e.told;
       does =
           record {
-            answered = finish_refused a s t own u c.in-Err.why c.wanted_of-wanted.result _ (next.next a.told a.resources ∙ next_same a s t (tasks_in self.tasks (set rows t idle_task)) ended) wanted e.enters (ap b.active e.keeps);
+            answered = finish_refused a s t own u c.in_err-holds.field-0.0 c.wanted_of-wanted.result _ (next_same a s t (tasks_in self.tasks (set rows t idle_task)) (Some u) (next.next a.told a.resources) ended) wanted e.enters (ap b.active e.keeps);
             tasks = λ q. refl;
             clock = refl;
             releases = refl;
           };
       keeps = same_controllers _ self refl refl refl refl refl refl e.keeps;
-    }
+    })
 
-pub returns-in-Ok : goal.returns-in-Ok
-returns-in-Ok g c =
+pub returns : goal.returns
+returns g c =
     let self = c.args.self.now in
     let b = g.B.Bank in
     let a = setup_of b self in
@@ -74,20 +76,20 @@ returns-in-Ok g c =
     let rows = self.table.rows in
     let own = c.in_ok-check.ensures in
     let next = c.in-Some.ensures in
-    let e = c.in-Ok.ensures in
+    let e = c.in_ok-holds.ensures in
     let lt : t < self.tasks = ltb-true _ _ (yes_parts 1 _ _ own).0 in
     let ended : (q : ℕ) → tasks_in self.tasks (set rows t idle_task) q ≡ cond (eqb t q) idle_task (tasks_in self.tasks rows q) = tasks_written self.tasks rows (set rows t idle_task) t idle_task lt self.few_tasks self.all_records refl in
     let there : tasks_in self.tasks (set rows t idle_task) u ≡ tasks_in self.tasks rows u = next_other _ _ (eqb t u) (ended u) next.known.1 in
     let job = get_or (set rows t idle_task) u idle_task in
     let wanted : c.wanted_of-wanted.result ≡ wanted_of (tasks_in self.tasks rows u).state = c.wanted_of-wanted.ensures ∙ ap (λ (k : Task). wanted_of k.state) (sym (task_here self.tasks (set rows t idle_task) u next.known.0) ∙ there) in
-    let issued : Task → Task = λ k. in_state (issued_state c.in-Ok.holds (wanted_of k.state)) k in
+    let issued : Task → Task = λ k. in_state (issued_state c.in_ok-holds.holds (wanted_of k.state)) k in
     let long : length (set rows t idle_task) ≡ 64 = length-set rows t idle_task ∙ self.all_records in
-    let new : set (set rows t idle_task) u c.in_state.result ≡ set (set rows t idle_task) u (issued job) = ap (set (set rows t idle_task) u) (c.in_state.ensures ∙ ap (λ (st : State). in_state st job) (c.issued_state.ensures ∙ ap (issued_state c.in-Ok.holds) c.wanted_of-wanted.ensures)) in
+    let new : set (set rows t idle_task) u c.in_state.result ≡ set (set rows t idle_task) u (issued job) = ap (set (set rows t idle_task) u) (c.in_state.ensures ∙ ap (λ (st : State). in_state st job) (c.asked_state.ensures ∙ (ap (λ x. asked_state x c.wanted_of-wanted.result) c.issued.ensures ∙ (state_issued c.in_ok-holds.holds c.wanted_of-wanted.result ∙ ap (issued_state c.in_ok-holds.holds) c.wanted_of-wanted.ensures)))) in
     record {
       setup = same_setup (plan_contents self.plan) self.tasks self.resources _ _ e.told;
       does =
           record {
-            answered = finish_issued a s t own (get_or rows t idle_task).blocked u c.in-Ok.holds c.wanted_of-wanted.result _ (next.next a.told a.resources ∙ next_same a s t (tasks_in self.tasks (set rows t idle_task)) ended) (ap (λ (k : Task). k.blocked) (sym (task_here self.tasks rows t lt))) wanted e.enters;
+            answered = finish_issued a s t own (get_or rows t idle_task).blocked u c.in_ok-holds.holds c.wanted_of-wanted.result _ (next_same a s t (tasks_in self.tasks (set rows t idle_task)) (Some u) (next.next a.told a.resources) ended) (ap (λ (k : Task). k.blocked) (sym (task_here self.tasks rows t lt))) wanted e.enters;
             tasks = λ q. tasks_moved self.tasks (set rows t idle_task) (set (set rows t idle_task) u c.in_state.result) u issued next.known.0 self.few_tasks long new q ∙ ap (λ (k : Task). cond (eqb u q) (issued k) k) (ended q);
             clock = refl;
             releases = refl;

@@ -1,5 +1,6 @@
-use Rattle.std.proofs.Common.{◌≡◌, ℕ, ◌+◌, ◌<◌, ◌≤◌, Bool, true, false, ◌≢◌, List, length, get_or, sym, ap, ◌∙◌, inl, ⊎_elim, arith, length-set, get_or-set_other, get_or-set_same, below_more}
+use Rattle.std.proofs.Common.{◌≡◌, ℕ, ◌+◌, ◌<◌, ◌≤◌, Bool, true, false, ◌≢◌, List, length, get_or, Some, None, sym, ap, subst, ◌∙◌, inl, ⊎_elim, arith, length-set, get_or-set_other, get_or-set_same, below_more}
 use Rattle.std.proofs.lemmas.Bool.{cases_lt}
+use Rattle.std.proofs.lemmas.Result.{err_from_is_err_and}
 use Rattle.rules.specs.Jobs.{Setup, Snapshot}
 use Rattle.rules.specs.Moves.{ticked_task}
 use Rattle.rules.specs.Questions.{late, late_in}
@@ -9,6 +10,7 @@ use Rattle.rules.proofs.Counts.{lowest_is, lowest_nothing}
 use Rattle.table.specs.Rows.{tasks_in}
 use Rattle.table.proofs.Ranks.{tasks_past}
 use Rattle.controller.specs.Of.{setup_of, snapshot_of}
+use Rattle.controller.specs.Ticks.{TicksTask}
 use Rattle.controller.proofs.Tasks.{task_here, each_set}
 use Rattle.controller.proofs.controller.Controller.tick_all.Goals as goal
 
@@ -28,21 +30,26 @@ loop-t-preserved g c =
     let s = snapshot_of g.B.Bank self in
     let t = c.loop-t.t in
     let inv = c.loop-t.invariant in
-    let one = c.in-Some.ensures in
+    let there : c.tick_task.result ≡ Some c.in_ok-rows.field-0 = grind arith in
+    let one = subst (TicksTask a t (get_or self.table.rows t idle_task) self.clock) there c.tick_task.ensures in
     let lt : t < length c.loop-t.rows = omega arith in (
       below_more _ _ inv.0 (late_here a s t (get_or self.table.rows t idle_task) false (task_here self.tasks self.table.rows t c.loop-t-test.true) one.0),
       length-set _ _ _ ∙ inv.1,
       below_more _ _ (λ k h. let ne : k ≢ t = omega arith in rw get_or-set_other (inv.2 k h)) (get_or-set_same _ _ _ _ lt ∙ one.1),
-      each_set (λ (x : Task). x.blocked ≤ self.clock + 1) c.loop-t.rows t c.in-Some.record idle_task one.2 inv.3,
+      each_set (λ (x : Task). x.blocked ≤ self.clock + 1) c.loop-t.rows t c.in_ok-rows.field-0 idle_task one.2 inv.3,
     )
 
-pub returns-in-None : goal.returns-in-None
-returns-in-None g c =
+pub returns-in_err-rows : goal.returns-in_err-rows
+returns-in_err-rows g c =
     let self = c.args.self.now in
     let a = setup_of g.B.Bank self in
     let s = snapshot_of g.B.Bank self in
     let t = c.loop-t.t in
-    lowest_is (late a s) self.tasks t c.loop-t-test.true (late_here a s t (get_or self.table.rows t idle_task) true (task_here self.tasks self.table.rows t c.loop-t-test.true) c.in-None.ensures) c.loop-t.invariant.0
+    let p = err_from_is_err_and c.from_residual.result c.from_residual.ensures.1 in
+    let none : c.tick_task.result ≡ None = grind arith in
+    let late_now = subst (TicksTask a t (get_or self.table.rows t idle_task) self.clock) none c.tick_task.ensures in
+    let which : c.in_err-rows.field-0.0 ≡ t = grind arith in
+    rw (p.1, p.2, which) (lowest_is (late a s) self.tasks t c.loop-t-test.true (late_here a s t (get_or self.table.rows t idle_task) true (task_here self.tasks self.table.rows t c.loop-t-test.true) late_now) c.loop-t.invariant.0)
 
 -- past the tasks all are idle, and stay so
 ticked_tasks : (n : ℕ) (rows new : List Task) → ((k : ℕ) → k < n → get_or new k idle_task ≡ ticked_task (get_or rows k idle_task)) → (q : ℕ) → tasks_in n new q ≡ ticked_task (tasks_in n rows q)

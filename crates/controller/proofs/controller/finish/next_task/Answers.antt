@@ -10,11 +10,11 @@ use Rattle.controller.proofs.controller.finish.next_task.Goals as goal
 silent : Told
 silent = record { resources = 0; seats = 0; slots = λ r. 0; reads = λ r. false; limit = λ r m. 0 }
 
-found : (c : goal.In-Some) → IsNext c.args.tasks (tasks_in c.args.tasks c.args.rows.now) (Some c.in-Some.next)
-found c = next_known (setup_with (plan_contents c.args.plan.now) silent c.args.tasks 0) (tasks_in c.args.tasks c.args.rows.now) c.args.task (Some c.in-Some.next) (c.in-Some.ensures silent 0)
+found : (c : goal.In_ok-next) → IsNext c.args.jobs.now.tasks (tasks_in c.args.jobs.now.tasks c.args.jobs.now.rows.now) (Some c.in_ok-next.next)
+found c = let now = c.args.jobs.now in next_known (setup_with (plan_contents now.plan.now) silent now.tasks 0) (tasks_in now.tasks now.rows.now) c.args.task (Some c.in_ok-next.next) (c.in_ok-next.ensures silent 0)
 
 pub overflow_cast-result : goal.overflow_cast-result
 overflow_cast-result c = let lt = (found c).0 in search rules
 
-pub returns-in-Some : goal.returns-in-Some
-returns-in-Some c = record { next = c.in-Some.ensures; known = found c }
+pub returns-clause-known : goal.returns-clause-known
+returns-clause-known c = found c
