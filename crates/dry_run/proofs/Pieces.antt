@@ -1,8 +1,9 @@
 -- The first bytes of an input that comes in pieces.
-use Rattle.std.proofs.Common.{◌≡◌, ℕ, zero, suc, ◌+◌, ◌-◌, ◌≤◌, min, List, [], ◌∷◌, ◌++◌, length, take, sym, refl, ap, ◌∙◌, ⊎_elim, arith, length-append}
-use Rattle.std.proofs.lemmas.List.{take_all, take_at, length-take-le}
+use Rattle.std.proofs.Common.{◌≡◌, ℕ, zero, suc, ◌+◌, ◌-◌, ◌≤◌, min, List, [], ◌∷◌, ◌++◌, length, take, Ok, Err, Result, sym, refl, ap, ◌∙◌, ⊎_elim, arith}
+use Rattle.std.proofs.lemmas.List.{take_all, length-take-le}
 use Rattle.std.proofs.lemmas.Bool.{cases_lt}
-use Rattle.text.specs.Memory.{overlay}
+use Rattle.byte_vec.specs.Bytes.{Appends}
+use Rattle.byte_vec.specs.declared.byte_vec.Full.{Full}
 
 pub take_behind : (xs ys : List ℕ) (n : ℕ) → take (length xs + n) (xs ++ ys) ≡ xs ++ take n ys
 take_behind [] ys n = let e : 0 + n ≡ n = omega arith in ap (λ k. take k ys) e
@@ -22,12 +23,8 @@ part_same n room chunk e =
     (cases_lt (length chunk) room)
 
 -- the bytes kept after a piece
-pub kept_more : (text chunk : List ℕ) (size n : ℕ) → length text ≡ 16384 → size ≤ 16384 → n ≡ min (length chunk) (16384 - size) → take (size + length (take n chunk)) (overlay text size (take n chunk)) ≡ take 16384 (take size text ++ chunk)
-kept_more text chunk size n long few e =
-    let p : List ℕ = take n chunk in
-    let front : List ℕ = take size text in
-    let room : length front ≡ size = length-take-le size text (omega arith) in
-    let whole : length front + (16384 - size) ≡ 16384 = omega arith in
-    take_at (front ++ p) _ (size + length p) (omega (arith, length-append front p))
-    ∙ (ap (λ zs. front ++ zs) (part_same n (16384 - size) chunk e)
-    ∙ (sym (take_behind front chunk (16384 - size)) ∙ ap (λ k. take k (front ++ chunk)) whole))
+pub kept_more : (text chunk : List ℕ) (n : ℕ) (r : Result (Unit {0}) Full) (new : List ℕ) → length text ≤ 16384 → n ≡ min (length chunk) (16384 - length text) → Appends 16384 text (take n chunk) r new → new ≡ take 16384 (text ++ chunk)
+kept_more text chunk n (Ok done) new few e a =
+    let whole : length text + (16384 - length text) ≡ 16384 = omega arith in
+    a.1 ∙ (ap (λ zs. text ++ zs) (part_same n (16384 - length text) chunk e) ∙ (sym (take_behind text chunk (16384 - length text)) ∙ ap (λ k. take k (text ++ chunk)) whole))
+kept_more text chunk n (Err full) new few e a = absurd (omega (arith, a.0, length-take-le n chunk (omega arith)))

@@ -21,6 +21,9 @@ pub written_within : (old : List ℕ) (bytes : List ℕ) (r : Result ℕ Refusal
 written_within old bytes (Ok end) new w = let f = w.0 in let e = w.1 in grind (arith, nat_tests)
 written_within old bytes (Err why) new w = tt
 
+pub refused_size : (question line : ℕ) → question < 2 ^ 32 → line < 2 ^ 64 → length (refused_text question line) ≤ 50
+refused_size question line q l = simp length-append (omega (arith, length-decimal-le 10 question (omega arith) (omega arith) (omega arith), length-decimal-le 20 line (omega arith) (omega arith) l))
+
 number_small : (why : Refusal) → number why < 100
 number_small Form = omega arith
 number_small Order = omega arith

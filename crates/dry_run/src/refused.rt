@@ -8,8 +8,10 @@ use plan::draft::Refused;
 use text::number::push_field;
 
 // The line of a refused plan, as far as there is room.
+#[tactic(auto, using(crate::proofs::Printed::refused_size))]
 fn push_refused(line: &mut ByteVec<64>, question: u32, at: usize) -> Result<(), Full>
-    ensures { Pushes 64 line.old (refused_text question at) result line.new }
+    ensures text { Pushes 64 line.old (refused_text question at) result line.new }
+    ensures few { length (refused_text question at) ≤ 50 }
 {
     line.extend_from_slice(b"plan,no,")?;
     push_field(line, question as u64, b",")?;

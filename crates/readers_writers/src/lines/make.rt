@@ -7,20 +7,6 @@ ghost use Rattle.readers_writers.specs.Told.{told};
 
 use crate::lines::ReadersWriters;
 use plan::plan::Plan;
-use plan::resource::Resource;
-
-// How many reader-writer resources a plan has.
-fn reader_writers(plan: &Plan) -> u32
-    ensures { result ≡ (plan_contents plan.now).reader_writers }
-{
-    let mut n: u32 = 0;
-    for r in 0..plan.resources() {
-        if let Some(Resource::ReaderWriter) = plan.resource(r) {
-            n += 1;
-        }
-    }
-    n
-}
 
 impl ReadersWriters {
     /// The reader-writer resources of a plan, with a seat for each processor, and nobody active.
@@ -28,7 +14,7 @@ impl ReadersWriters {
         ensures told { told_of result ≡ told (plan_contents plan.now).reader_writers (processors (plan_contents plan.now)) }
         ensures free { (r : ℕ) → entries_of result.lines r ≡ [] }
     {
-        let count = reader_writers(plan);
+        let count = plan.reader_writers() as u32;
         let seats = plan.all_processors();
         ReadersWriters {
             lines: Default::default(),

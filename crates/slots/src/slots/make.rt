@@ -7,7 +7,6 @@ use crate::line::Line;
 use crate::slots::Slots;
 use byte_vec::byte_vec::ByteVec;
 use plan::plan::Plan;
-use plan::resource::Resource;
 
 // The slot resources of a plan with nobody active, and how many there are.
 fn lines_of(plan: &Plan) -> ([Line; 16], u32)
@@ -21,14 +20,10 @@ fn lines_of(plan: &Plan) -> ([Line; 16], u32)
         parties: ByteVec::new(),
     };
     let mut lines = [line; 16];
-    let mut count = 0;
-    for r in 0..plan.resources() {
-        if let Some(Resource::Slots(k)) = plan.resource(r) {
-            lines[r].slots = k;
-            count = r as u32 + 1;
-        }
+    for (r, k) in plan.slot_holders().iter().enumerate() {
+        lines[r].slots = *k;
     }
-    (lines, count)
+    (lines, plan.slot_holders().len() as u32)
 }
 
 impl Slots {

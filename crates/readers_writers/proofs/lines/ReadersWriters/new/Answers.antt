@@ -1,4 +1,4 @@
-use Rattle.std.proofs.Common.{◌≡◌, ℕ, true, zero, suc, ◌+◌, ◌<◌, ◌≤◌, List, [], ◌∷◌, length, get_or, take, sum, sym, ap, refl, subst, ⊎_elim, arith}
+use Rattle.std.proofs.Common.{◌≡◌, ℕ, true, ◌+◌, ◌<◌, ◌≤◌, List, [], ◌∷◌, length, get_or, sum, sym, ap, refl, subst, ⊎_elim, arith}
 use Rattle.std.proofs.lemmas.Bool.{cases_lt}
 use Rattle.std.proofs.lemmas.List.{get_or_past}
 use Rattle.std.proofs.lemmas.List.Sums.{sum_by-cons}
@@ -8,10 +8,9 @@ use Rattle.readers_writers.specs.declared.line.Line.{Line}
 use Rattle.readers_writers.specs.Of.{list_of, bare, Keeping}
 use Rattle.readers_writers.proofs.lines.ReadersWriters.new.Goals as goal
 
-some_processor : (xs : List ℕ) (n : ℕ) → 0 < n → 1 ≤ get_or xs 0 0 → 1 ≤ sum (take n xs)
-some_processor [] n l h = absurd (omega arith)
-some_processor (x ∷ xs) zero l h = absurd (omega arith)
-some_processor (x ∷ xs) (suc n) l h = let e : sum (x ∷ take n xs) ≡ x + sum (take n xs) = sum_by-cons (λ y. y) x (take n xs) in omega arith
+some_processor : (xs : List ℕ) → 0 < length xs → 1 ≤ get_or xs 0 0 → 1 ≤ sum xs
+some_processor [] l h = absurd (omega arith)
+some_processor (x ∷ xs) l h = let e : sum (x ∷ xs) ≡ x + sum xs = sum_by-cons (λ y. y) x xs in omega arith
 
 keep_free : (m : ℕ) (l : Line) → list_of l ≡ [] → Keeping m l
 keep_free m l e = (omega (arith, ap length e), subst (λ es. named es ≡ true) (sym e) refl, subst (λ es. good es ≡ true) (sym e) refl)
@@ -20,9 +19,9 @@ pub invariant_of-result : goal.invariant_of-result
 invariant_of-result c =
     let t = c.args.plan.now.tables in
     let has = c.args.plan.now.has_cluster in
-    let few = processors_few t.clusters t.cluster_count t.clusters_held t.clusters_sized in
-    let one = some_processor t.clusters t.cluster_count has (t.clusters_sized 0 has).0 in
-    let w = c.reader_writers-count.ensures in
+    let few = processors_few t.clusters t.few_clusters t.clusters_sized in
+    let one = some_processor t.clusters has (t.clusters_sized 0 has).0 in
+    let w = c.reader_writers-count.ensures.value in
     let m = c.all_processors-seats.ensures in
     let held = t.resources_held in record {
       long = c.default.ensures.long;

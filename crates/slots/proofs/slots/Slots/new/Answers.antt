@@ -1,5 +1,4 @@
-use Rattle.std.proofs.Common.{◌<◌, take, length, ap, arith}
-use Rattle.std.proofs.lemmas.List.{length-take-le, get_or-take}
+use Rattle.std.proofs.Common.{◌<◌, length, ap, arith}
 use Rattle.std.proofs.lemmas.List.Sums.{get_or-le-sum_by}
 use Rattle.plan.proofs.Rows.{processors_few}
 use Rattle.slots.proofs.slots.Slots.new.Goals as goal
@@ -8,17 +7,12 @@ pub invariant_of-result : goal.invariant_of-result
 invariant_of-result c =
     let t = c.args.plan.now.tables in
     let o = c.lines_of-lines.ensures in
-    let n = t.slot_count in
-    let g = t.cluster_count in
     let m = c.all_processors.ensures in
-    let long = length-take-le n t.slots (omega arith) in
     let one = c.args.plan.now.has_cluster in
-    let some = length-take-le g t.clusters (omega arith) in
-    let first = get_or-le-sum_by (λ x. x) (take g t.clusters) 0 0 (omega arith) in
-    let read = get_or-take g t.clusters 0 0 one in
+    let first = get_or-le-sum_by (λ x. x) t.clusters 0 0 one in
     record {
-      seated = (omega (arith, t.clusters_sized 0 one), omega (arith, processors_few t.clusters g t.clusters_held t.clusters_sized));
+      seated = (omega (arith, t.clusters_sized 0 one), omega (arith, processors_few t.clusters t.few_clusters t.clusters_sized));
       held = o.long;
-      sized = (omega arith, λ r l. let lt : r < n = omega arith in omega (arith, o.each r l, get_or-take n t.slots r 0 lt, t.slots_sized r lt));
+      sized = (omega arith, λ r l. let lt : r < length t.slots = omega arith in omega (arith, o.each r l, t.slots_sized r lt));
       kept = λ r l. let none = ap length (o.nobody r) in (omega arith, λ i h. absurd (omega arith));
     }
