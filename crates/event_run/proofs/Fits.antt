@@ -1,6 +1,5 @@
 -- The banks of a plan fit it.
 use Rattle.std.proofs.Common.{◌≡◌, ℕ, zero, suc, ◌-◌, ◌<◌, ◌≤◌, Bool, true, false, cond, not, ◌&&◌, eqb, ltb, ◌⊎◌, length, get_or, sym, refl, ap, ◌∙◌, subst, inl, inr, arith}
-use Rattle.std.proofs.lemmas.List.{length-take-le}
 use Rattle.std.proofs.lemmas.Bool.{and_from, eq-eqb, ltb-true, true≢false}
 use Rattle.bank.specs.Meaning.{Lists}
 use Rattle.bank.specs.Questions.{Told}
@@ -22,7 +21,7 @@ all_pass test zero pass = refl
 all_pass test (suc n) pass = and_from (all_below test n) (test n) (all_pass test n (λ r lt. pass r (omega arith))) (pass n (omega arith))
 
 few_resources_lem : (p : Plan) → resource_count (plan_contents p) ≤ 16
-few_resources_lem p = let t = p.tables in omega (arith, t.resources_held, length-take-le t.slot_count t.slots (omega (arith, t.slots_held.0, t.slots_held.1)))
+few_resources_lem p = p.tables.resources_held
 
 module _ (c : Contents) (b : Banks) (of : BanksOf c b) where
   count : (slots_told_of b.first).resources ≡ length c.slots

@@ -1,4 +1,3 @@
 pub mod Bytes
 pub mod Fits
-pub mod Sizes
 pub mod Steps

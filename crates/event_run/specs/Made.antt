@@ -1,18 +1,13 @@
 -- The controller of a plan, over slots paired with readers and writers.
-use Rattle.std.specs.Prelude.{◌≡◌, ℕ, []}
+use Rattle.std.specs.Prelude.{◌≡◌}
 use Rattle.dry_run.specs.Banks.{Banks, BanksOf}
 use Rattle.bank.specs.declared.meaning.Bank.{Ghosts}
 use Rattle.pair.specs.Pairs.{pair_told, pair_active}
-use Rattle.pair.specs.declared.pair.Pair.{Pair}
-use Rattle.plan.specs.Contents.{Contents, processors}
+use Rattle.plan.specs.Contents.{Contents}
 use Rattle.readers_writers.specs.Banks.{told_of as writers_told_of, active_of as writers_active_of}
-use Rattle.readers_writers.specs.Of.{entries_of}
-use Rattle.readers_writers.specs.Told.{told as writers_told}
-use Rattle.readers_writers.specs.declared.lines.ReadersWriters.{ReadersWriters}
 use Rattle.rules.specs.Jobs.{Setup, Snapshot}
 use Rattle.rules.specs.Runs.{Fitting, Starts}
-use Rattle.slots.specs.Of.{told_of as slots_told_of, active_of as slots_active_of, MadeFrom as SlotsOf}
-use Rattle.slots.specs.declared.slots.Slots.{Slots}
+use Rattle.slots.specs.Of.{told_of as slots_told_of, active_of as slots_active_of}
 
 -- what the pair tells, and its active requests
 abbrev pub meaning : Ghosts Banks

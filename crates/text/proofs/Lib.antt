@@ -2,6 +2,5 @@ pub mod Fronts
 pub mod Lays
 pub mod Lines
 pub mod Numbers
-pub mod Puts
 pub mod Questions
 pub mod Writes

@@ -17,11 +17,6 @@ abbrev pub Writes : List ℕ → ℕ → List ℕ → Result ℕ Refusal → Lis
 Writes old at bytes (Ok end) new = (first_no (fit_questions old at bytes) ≡ None) × (end ≡ at + length bytes) × (new ≡ overlay old at bytes)
 Writes old at bytes (Err why) new = (first_no (fit_questions old at bytes) ≡ Some (number why)) × (new ≡ old)
 
--- the same where bytes are put one part after another: an early refusal may leave some of them written
-abbrev pub Puts : List ℕ → ℕ → List ℕ → Result ℕ Refusal → List ℕ → Type 0
-Puts old at bytes (Ok end) new = (first_no (fit_questions old at bytes) ≡ None) × (end ≡ at + length bytes) × (new ≡ overlay old at bytes)
-Puts old at bytes (Err why) new = first_no (fit_questions old at bytes) ≡ Some (number why)
-
 -- bytes laid one after another into memory that need not be there:
 -- the answer is the place behind the bytes; where they fit, they are written and nothing else changes
 pub record Lays (old : List ℕ) (at : ℕ) (bytes : List ℕ) (end : ℕ) (new : List ℕ) : Type 0 where

@@ -3,7 +3,7 @@ ghost use Rattle.std.specs.Char.{is_ascii_digit};
 ghost use Rattle.std.specs.List.{prefix_len};
 ghost use Rattle.byte_vec.specs.Bytes.{Appends};
 ghost use Rattle.text.specs.Numbers.{value_of, read_number, IsWritten, ReadsBack};
-ghost use Rattle.text.specs.Memory.{overlay, Writes, Puts};
+ghost use Rattle.text.specs.Memory.{Writes};
 
 use crate::memory::{put_bytes, write_bytes};
 use crate::refusal::Refusal;
