@@ -85,7 +85,6 @@ is_line_of line = from (read_event line) refl (event_of_lem line)
     from None e w = λ i small text. let z = sym e ∙ (ap read_event text ∙ read_back i small) in let n : ◌≡◌ {A = ℕ} 0 1 = cc in omega arith
     from (Some i) e w = w
 
-
 pub size_mode : (m : Mode) → length (mode_letter m ++ (10 ∷ [])) ≡ 2
 size_mode Write = refl
 size_mode Read = refl

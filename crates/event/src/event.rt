@@ -1,7 +1,7 @@
 use bank::request::Mode;
 
 /// What one event line asks of the controller.
-#[derive(Clone, Copy)]
+#[derive(Clone, Copy, Debug, PartialEq, Eq)]
 pub enum Event {
     /// `N,t`: task t releases a job.
     Release(u32),
