@@ -9,6 +9,7 @@ use crate::table::Table;
 use order::elements::{AbsentLast, Job};
 use order::row::count_before;
 use rules::task::Task;
+use std::array;
 
 impl Table<'_> {
     // The job of a task, if it is selected and of the cluster.
@@ -23,11 +24,7 @@ impl Table<'_> {
     pub(crate) fn job_row(&self, which: Selection, cluster: u8) -> [AbsentLast<Job>; 64]
         ensures { (q : ℕ) → q < 64 → (slice_index_or result q (record { 0 = None })).0 ≡ job_at (plan_contents self.now.plan.now) self.now.tasks self.now.rows.now which cluster q }
     {
-        let mut row = [AbsentLast(None); 64];
-        for (task, place) in row.iter_mut().enumerate() {
-            *place = AbsentLast(self.job_at(which, cluster, task));
-        }
-        row
+        array::from_fn(|task| AbsentLast(self.job_at(which, cluster, task)))
     }
 
     // How many selected jobs of the cluster have smaller release numbers.
