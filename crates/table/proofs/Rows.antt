@@ -1,9 +1,7 @@
 -- Rows by their places. Assumes nothing.
-use Rattle.std.proofs.Common.{◌≡◌, ℕ, zero, suc, ◌+◌, ◌<◌, ◌≤◌, cond, eqb, ltb, List, [], ◌∷◌, length, get_or, set, replicate, unwrap_or, sym, refl, ap, ◌∙◌, subst, ⊎_elim, arith, get_or-set_other, get_or-set_same}
+use Rattle.std.proofs.Common.{◌≡◌, ℕ, zero, suc, ◌<◌, ◌≤◌, cond, eqb, ltb, List, [], ◌∷◌, length, get_or, set, replicate, unwrap_or, sym, refl, ap, ◌∙◌, subst, ⊎_elim, arith, get_or-set_other, get_or-set_same}
 use lib.ListN.{get_or-replicate, length-replicate}
 use Rattle.std.proofs.lemmas.Bool.{cases_lt, cases_eq, cond-true, cond-false, eq-eqb, ne_eqb, lt-ltb, le-ltb}
-use denote.Param.Members.{Mut, Called}
-use Rattle.std.specs.Array.{IsFromFnResultFrom}
 use Rattle.plan.specs.Contents.{entry_at}
 
 pub past_end : {X : Type 0} (xs : List X) (i : ℕ) (d : X) → length xs ≤ i → get_or xs i d ≡ d
@@ -29,13 +27,3 @@ set_row xs p x q d h =
     (λ (e : p ≡ q). subst (λ k. get_or (set xs p x) k d ≡ x) e (get_or-set_same xs p x d h) ∙ sym (cond-true (eqb p q) x (get_or xs q d) (eq-eqb p q e)))
     (λ (ne : p ≡ q → ⊥). get_or-set_other xs p q x d (λ e. ne (sym e)) ∙ sym (cond-false (eqb p q) x (get_or xs q d) (ne_eqb p q ne)))
     (cases_eq p q)
-
--- what each call gives stands at its place of an array made by calls that leave the closure as it was
-pub from_each : {F B : Type 0} (g : Mut F (ℕ × Unit {0}) B) (P : ℕ → B → Type 0) (f : F) → ((i : ℕ) (y : B) (f' : F) → Called g f (i, tt) y f' → P i y × (f' ≡ f)) → (ys : List B) (i n : ℕ) → IsFromFnResultFrom g f ys i n → (k : ℕ) (d : B) → i ≤ k → k < i + n → P k (get_or ys k d)
-from_each g P f step ys i zero h k d low high = absurd (omega arith)
-from_each g P f step ys i (suc n) (q, y, at, call, rest) k d low high =
-    let one = step i y q call in
-    ⊎_elim
-    (λ (e : i ≡ k). subst (λ j. P j (get_or ys j d)) e (subst (P i) (sym (at.1 d)) one.0))
-    (λ (ne : i ≡ k → ⊥). from_each g P f step ys (i + 1) n (subst (λ x. IsFromFnResultFrom g x ys (i + 1) n) one.1 rest) k d (omega arith) (omega arith))
-    (cases_eq i k)

@@ -7,7 +7,6 @@ use crate::table::Table;
 use order::elements::{AbsentLast, Holder};
 use order::row::first_of;
 use rules::task::State;
-use std::array;
 
 impl Table<'_> {
     // The holder of a task, if it holds, with the ticks that it has left.
@@ -33,7 +32,11 @@ impl Table<'_> {
     fn holder_row(&self) -> [AbsentLast<Holder>; 64]
         ensures { (q : ℕ) → q < 64 → (slice_index_or result q (record { 0 = None })).0 ≡ holder_at (plan_contents self.now.plan.now) self.now.tasks self.now.rows.now q }
     {
-        array::from_fn(|task| AbsentLast(self.holder_at(task)))
+        let mut row = [AbsentLast(None); 64];
+        for (task, place) in row.iter_mut().enumerate() {
+            *place = AbsentLast(self.holder_at(task));
+        }
+        row
     }
 
     // The holder that has the fewest ticks left, of equal ones the lowest.

@@ -9,7 +9,6 @@ use crate::table::Table;
 use order::elements::{AbsentLast, Job};
 use order::row::count_before;
 use rules::task::Task;
-use std::array;
 
 impl Table<'_> {
     // The job of a task, if it is selected and of the cluster.
@@ -24,7 +23,11 @@ impl Table<'_> {
     pub(crate) fn job_row(&self, which: Selection, cluster: u8) -> [AbsentLast<Job>; 64]
         ensures { (q : ℕ) → q < 64 → (slice_index_or result q (record { 0 = None })).0 ≡ job_at (plan_contents self.now.plan.now) self.now.tasks self.now.rows.now which cluster q }
     {
-        array::from_fn(|task| AbsentLast(self.job_at(which, cluster, task)))
+        let mut row = [AbsentLast(None); 64];
+        for (task, place) in row.iter_mut().enumerate() {
+            *place = AbsentLast(self.job_at(which, cluster, task));
+        }
+        row
     }
 
     // How many selected jobs of the cluster have smaller release numbers.

@@ -1,14 +1,11 @@
-use Rattle.std.proofs.Common.{rules, ◌≡◌, ℕ, arith}
-use Rattle.order.specs.declared.elements.AbsentLast.{AbsentLast}
-use Rattle.order.specs.declared.elements.Job.{Job}
-use Rattle.plan.specs.Of.{plan_contents}
-use Rattle.table.specs.Rows.{job_at}
-use Rattle.table.proofs.Orders.{nothing}
-use Rattle.table.proofs.Rows.{from_each}
+use Rattle.std.proofs.Common.{◌<◌, ◌≢◌, length, ap, ◌∙◌, arith, length-set, get_or-set_other, get_or-set_same, below_more}
 use Rattle.table.proofs.table.Table.job_row.Goals as goal
 
-pub returns : goal.returns
-returns c q lt =
-    let now = c.args.self.now in
-    let is : ℕ → AbsentLast Job → Type 0 = λ k y. y.0 ≡ job_at (plan_contents now.plan.now) now.tasks now.rows.now c.args.which c.args.cluster k in
-    from_each _ is _ (λ i y f call. (search rules, search rules)) _ 0 64 c.from_fn.ensures.items.each q nothing (omega arith) (omega arith)
+pub loop-task-preserved : goal.loop-task-preserved
+loop-task-preserved c =
+    let lt : c.loop-task.task < length c.loop-task.place-items = omega arith in (
+      length-set _ _ _ ∙ c.loop-task.invariant.0,
+      below_more _ _
+          (λ k h. let ne : k ≢ c.loop-task.task = omega arith in rw get_or-set_other (c.loop-task.invariant.1 k h))
+          (ap (λ x. x.0) (get_or-set_same _ _ _ _ lt) ∙ c.job_at.ensures),
+    )
