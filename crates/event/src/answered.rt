@@ -3,7 +3,7 @@ use rules::answer::{Asked, Finished};
 use rules::refusal::Refusal;
 
 /// An event with the controller's answer.
-#[derive(Clone, Copy)]
+#[derive(Clone, Copy, Debug, PartialEq, Eq)]
 pub enum Answered {
     /// The release number.
     Release(u32, Result<u32, Refusal>),

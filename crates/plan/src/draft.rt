@@ -22,7 +22,7 @@ impl Drop for Draft {
 }
 
 /// Why a line or a sealing was refused, and the number of the line, counted from 1.
-#[derive(Clone, Copy)]
+#[derive(Clone, Copy, Debug, PartialEq, Eq)]
 pub struct Refused {
     pub refusal: Refusal,
     pub line: usize,

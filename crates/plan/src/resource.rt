@@ -1,5 +1,5 @@
 /// The kind of a resource.
-#[derive(Clone, Copy)]
+#[derive(Clone, Copy, Debug, PartialEq, Eq)]
 pub enum Resource {
     /// For up to k holders at once.
     Slots(u8),

@@ -5,7 +5,7 @@ ghost use Rattle.rules.specs.declared.refusal.Refusal.TheVariants.{Bank};
 use bank::refusal::Refusal as BankRefusal;
 
 /// Why a controller refuses a call. Each case has one number, that of the question answered no.
-#[derive(Clone, Copy)]
+#[derive(Clone, Copy, Debug, PartialEq, Eq)]
 pub enum Refusal {
     /// 1: the task does not exist.
     NoTask,

@@ -1,14 +1,14 @@
 use bank::request::Mode;
 
 /// A resource and the mode in which it is asked for.
-#[derive(Clone, Copy)]
+#[derive(Clone, Copy, Debug, PartialEq, Eq)]
 pub struct Wanted {
     pub resource: u32,
     pub mode: Mode,
 }
 
 /// The state of a task.
-#[derive(Clone, Copy)]
+#[derive(Clone, Copy, Debug, PartialEq, Eq)]
 pub enum State {
     /// It has no unfinished job.
     Idle,
@@ -24,7 +24,7 @@ pub enum State {
 
 /// The record of a task: the release number of its unfinished job, the ticks for which its request has held, and the
 /// ticks on which its job was blocked.
-#[derive(Clone, Copy)]
+#[derive(Clone, Copy, Debug, PartialEq, Eq)]
 pub struct Task {
     pub state: State,
     pub release: u32,
