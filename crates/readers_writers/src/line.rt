@@ -7,7 +7,7 @@ ghost use Rattle.readers_writers.specs.Places.{parted};
 
 use crate::entry::Entry;
 use arrayvec::ArrayVec;
-use bank::request::{Mode, Request};
+use bank::request::{Mode, Request, Standing};
 
 /// The active requests of one resource, in order of entry.
 #[derive(Drop, Default)]
@@ -150,17 +150,16 @@ impl Line {
             return Some(Request {
                 party: e.party.into(),
                 mode: e.mode,
-                holds: true,
-                turns: 0,
-                departures: 0,
+                standing: Standing::Holds,
             });
         }
         Some(Request {
             party: e.party.into(),
             mode: e.mode,
-            holds: false,
-            turns: turns(self.is_writing(), self.writers_before(at), e.mode),
-            departures: self.holders(),
+            standing: Standing::Waits {
+                turns: turns(self.is_writing(), self.writers_before(at), e.mode),
+                departures: self.holders(),
+            },
         })
     }
 

@@ -26,7 +26,7 @@ fn let_in<B: Bank>(bank: &B, resource: u32, task: u32, job: Task) -> Task
     }
     match bank.request_of(resource, task) {
         Ok(Some(request)) => {
-            if request.holds {
+            if request.holds() {
                 in_state(job, State::Holding(wanted))
             } else {
                 job

@@ -9,6 +9,7 @@ use Rattle.readers_writers.specs.Of.{list_of}
 use Rattle.readers_writers.specs.PlacesLemmas.{request_at_lem, length_requests}
 use Rattle.readers_writers.proofs.Positions.{count_is}
 use Rattle.readers_writers.proofs.line.Line.request.Goals as goal
+use Rattle.bank.specs.declared.request.Standing.TheVariants.{Holds, Waits}
 
 pub returns-in_err-e : goal.returns-in_err-e
 returns-in_err-e c =
@@ -32,7 +33,7 @@ returns-then-e c =
     let n = ap length c.deref.ensures.0 in
     let lt = ltb-true _ _ (sym c.in_ok-e.ensures.lookup.0) in
     let is : e ≡ slice_index_or es c.args.at e = c.in_ok-e.ensures.lookup.1 ∙ ap (λ xs. slice_index_or xs c.args.at e) c.deref.ensures.0 in
-    ap (λ p. Some (record { party = p; mode = e.mode; holds = true; turns = 0; departures = 0 })) c.into.ensures
+    ap (λ p. Some (record { party = p; mode = e.mode; standing = Holds })) c.into.ensures
     ∙ sym (at_place es c.args.at e (omega arith) is ∙ ap Some (cond-true e.holds _ _ c.if-e.true))
 
 pub returns : goal.returns
@@ -45,6 +46,6 @@ returns c =
     let k = c.writers_before.ensures.many ∙ count_is is_writer (take c.args.at es) in
     let h = c.holders.ensures ∙ count_is is_holder es in
     let t : c.turns.result ≡ turns (some holding_writer es) (count_of is_writer (take c.args.at es)) e.mode = c.turns.ensures ∙ (ap (λ b. turns b c.writers_before.result e.mode) c.is_writing.ensures ∙ ap (λ n. turns (some holding_writer es) n e.mode) k) in
-    let r : Request = record { party = e.party; mode = e.mode; holds = false; turns = turns (some holding_writer es) (count_of is_writer (take c.args.at es)) e.mode; departures = count_of is_holder es } in
-    let made : record { party = c.into-2.result; mode = e.mode; holds = false; turns = c.turns.result; departures = c.holders.result } ≡ r = cc (c.into-2.ensures, t, h) in
+    let r : Request = record { party = e.party; mode = e.mode; standing = Waits (turns (some holding_writer es) (count_of is_writer (take c.args.at es)) e.mode) (count_of is_holder es) } in
+    let made : record { party = c.into-2.result; mode = e.mode; standing = Waits (c.turns.result) (c.holders.result) } ≡ r = cc (c.into-2.ensures, t, h) in
     ap Some made ∙ sym (at_place es c.args.at e (omega arith) is ∙ ap Some (cond-false e.holds _ _ c.if-e.false))
