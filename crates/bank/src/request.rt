@@ -32,9 +32,6 @@ impl Request {
     pub fn holds(&self) -> bool
         ensures { result ≡ holds self.now }
     {
-        match self.standing {
-            Standing::Holds => true,
-            Standing::Waits { .. } => false,
-        }
+        matches!(self.standing, Standing::Holds)
     }
 }

@@ -146,20 +146,18 @@ impl Line {
         ensures { result ≡ slice_get (requests (list_of self.now)) at }
     {
         let e = *self.entries.get(at)?;
-        if e.holds {
-            return Some(Request {
-                party: e.party.into(),
-                mode: e.mode,
-                standing: Standing::Holds,
-            });
-        }
+        let standing = if e.holds {
+            Standing::Holds
+        } else {
+            Standing::Waits {
+                turns: turns(self.is_writing(), self.writers_before(at), e.mode),
+                departures: self.holders(),
+            }
+        };
         Some(Request {
             party: e.party.into(),
             mode: e.mode,
-            standing: Standing::Waits {
-                turns: turns(self.is_writing(), self.writers_before(at), e.mode),
-                departures: self.holders(),
-            },
+            standing,
         })
     }
 

@@ -1,5 +1,5 @@
 -- A slot resource for k holders: its parties in order of entry, of whom the first k hold.
-use Rattle.std.specs.Prelude.{ℕ, ◌+◌, ◌-◌, ◌/◌, ◌%◌, true, false, cond, List, [], ◌∷◌, take, drop, nat_lt}
+use Rattle.std.specs.Prelude.{ℕ, ◌+◌, ◌-◌, ◌/◌, ◌%◌, cond, List, [], ◌∷◌, take, drop, nat_lt}
 use Rattle.bank.specs.declared.request.Mode.TheVariants.{Write}
 use Rattle.bank.specs.declared.request.Request.{Request}
 use Rattle.bank.specs.declared.request.Standing.TheVariants.{Holds, Waits}
