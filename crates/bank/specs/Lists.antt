@@ -3,6 +3,8 @@ use Rattle.std.specs.Prelude.{ℕ, ◌+◌, Bool, true, false, cond, not, ◌&&�
 use Rattle.bank.specs.declared.request.Mode.{Mode}
 use Rattle.bank.specs.declared.request.Mode.TheVariants.{Write, Read}
 use Rattle.bank.specs.declared.request.Request.{Request}
+use Rattle.bank.specs.declared.request.Standing.{Standing}
+use Rattle.bank.specs.declared.request.Standing.TheVariants.{Holds, Waits}
 
 abbrev pub is_write : Mode → Bool
 is_write Write = true
@@ -17,14 +19,33 @@ abbrev pub any : (Request → Bool) → List Request → Bool
 any test [] = false
 any test (a ∷ xs) = test a || any test xs
 
+-- whether a request holds, and the turns and departures before it, none where it does
+abbrev pub holding : Standing → Bool
+holding Holds = true
+holding (Waits t d) = false
+
+abbrev pub turns_of : Standing → ℕ
+turns_of Holds = 0
+turns_of (Waits t d) = t
+
+abbrev pub departures_of : Standing → ℕ
+departures_of Holds = 0
+departures_of (Waits t d) = d
+
 abbrev pub holds : Request → Bool
-holds a = a.holds
+holds a = holding a.standing
+
+abbrev pub turns : Request → ℕ
+turns a = turns_of a.standing
+
+abbrev pub departures : Request → ℕ
+departures a = departures_of a.standing
 
 abbrev pub holds_write : Request → Bool
-holds_write a = a.holds && is_write a.mode
+holds_write a = holds a && is_write a.mode
 
 abbrev pub holds_read : Request → Bool
-holds_read a = a.holds && not (is_write a.mode)
+holds_read a = holds a && not (is_write a.mode)
 
 abbrev pub holders : List Request → ℕ
 holders xs = count holds xs
@@ -34,7 +55,7 @@ abbrev pub is_active : ℕ → List Request → Bool
 is_active p xs = any (λ a. nat_eq a.party p) xs
 
 abbrev pub holds_by : ℕ → Request → Bool
-holds_by p a = a.party == p && a.holds
+holds_by p a = a.party == p && holds a
 
 abbrev pub is_holder : ℕ → List Request → Bool
 is_holder p xs = any (holds_by p) xs

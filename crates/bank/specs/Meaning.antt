@@ -2,7 +2,7 @@
 use Rattle.std.specs.Prelude.{◌≡◌, ℕ, ◌+◌, ◌<◌, ◌≤◌, Bool, true, false, ◌⊎◌, List, [], ◌∷◌, ◌++◌, Some, None, Ok, Err, Result, ◌≢◌}
 use Rattle.std.specs.List.{AllZip, AllByRecursion}
 use Rattle.text.specs.Questions.{first_no}
-use Rattle.bank.specs.Lists.{count, holders, holds_write, holds_read, without}
+use Rattle.bank.specs.Lists.{count, holds, turns, departures, holders, holds_write, holds_read, without}
 use Rattle.bank.specs.Questions.{number, Told, knows, enter_questions, leave_questions}
 use Rattle.bank.specs.declared.refusal.Refusal.{Refusal}
 use Rattle.bank.specs.declared.request.Mode.{Mode}
@@ -24,8 +24,8 @@ pub record Small (t : Told) : Type 0 where
 pub record Lawful (t : Told) (r h : ℕ) (a : Request) : Type 0 where
   pub party : a.party < 64
   pub known : knows t r a.mode ≡ true
-  pub holding : a.holds ≡ true → (a.turns ≡ 0) × (a.departures ≡ 0)
-  pub waiting : a.holds ≡ false → (1 ≤ a.turns) × (a.turns ≤ t.limit r a.mode) × (1 ≤ a.departures) × (a.departures ≤ h)
+  pub holding : holds a ≡ true → (turns a ≡ 0) × (departures a ≡ 0)
+  pub waiting : holds a ≡ false → (1 ≤ turns a) × (turns a ≤ t.limit r a.mode) × (1 ≤ departures a) × (departures a ≤ h)
 
 -- what a resource always has: lawful requests, at most k holders in mode W, and no holder in mode R beside one
 pub record Sound (t : Told) (r : ℕ) (xs : List Request) : Type 0 where
@@ -39,15 +39,15 @@ pub record Added (p : ℕ) (m : Mode) (h : Bool) (old new : List Request) : Type
   pub list : new ≡ old ++ (request ∷ [])
   pub party : request.party ≡ p
   pub mode : request.mode ≡ m
-  pub holds : request.holds ≡ h
+  pub holds : holds request ≡ h
 
 -- a request before and after another left: it goes on holding, and one that waited now holds,
 -- or has equal turns and one departure fewer, or has fewer turns
 pub record Stays (a b : Request) : Type 0 where
   pub party : b.party ≡ a.party
   pub mode : b.mode ≡ a.mode
-  pub holding : a.holds ≡ true → b.holds ≡ true
-  pub waiting : a.holds ≡ false → (b.holds ≡ true) ⊎ (((b.turns ≡ a.turns) × (b.departures + 1 ≡ a.departures)) ⊎ (b.turns < a.turns))
+  pub holding : holds a ≡ true → holds b ≡ true
+  pub waiting : holds a ≡ false → (holds b ≡ true) ⊎ (((turns b ≡ turns a) × (departures b + 1 ≡ departures a)) ⊎ (turns b < turns a))
 
 -- no other resource changes
 abbrev pub Others : Told → ℕ → Lists → Lists → Type 0

@@ -1,5 +1,5 @@
 -- Worked examples, as a list of data, and what it means that one holds.
-use Rattle.std.specs.Prelude.{◌≡◌, ℕ, true, false, List, [], ◌∷◌, ◌++◌, Some, None, Err, codes, Option}
+use Rattle.std.specs.Prelude.{◌≡◌, ℕ, List, [], ◌∷◌, ◌++◌, Some, None, Err, codes, Option}
 use Rattle.std.specs.List.{remove, AllByRecursion}
 use Rattle.bank.specs.declared.request.Mode.{Mode}
 use Rattle.bank.specs.declared.request.Mode.TheVariants.{Write, Read}
@@ -12,6 +12,7 @@ use Rattle.readers_writers.specs.declared.entry.Entry.{Entry}
 use Rattle.slots.specs.Lines.{requests as slot_requests}
 use Rattle.slots.specs.Rows.{place}
 use Rattle.text.specs.Questions.{first_no}
+use Rattle.bank.specs.declared.request.Standing.TheVariants.{Holds as Holding, Waits}
 
 -- a call that a bank accepts
 pub data Call : Type 0 where
@@ -47,10 +48,10 @@ Holds (slots k calls active) = slot_requests k (parties [] calls) ≡ active
 Holds (readers_writers calls active) = reader_writer_requests (entries [] calls) ≡ active
 
 abbrev pub holder : ℕ → Mode → Request
-holder p m = record { party = p; mode = m; holds = true; turns = 0; departures = 0 }
+holder p m = record { party = p; mode = m; standing = Holding }
 
 abbrev pub waiter : ℕ → Mode → ℕ → ℕ → Request
-waiter p m t d = record { party = p; mode = m; holds = false; turns = t; departures = d }
+waiter p m t d = record { party = p; mode = m; standing = Waits t d }
 
 -- parties 0 to 4 enter
 abbrev pub five : List Call

@@ -13,6 +13,7 @@ use Rattle.readers_writers.specs.declared.entry.Entry.{Entry}
 use Rattle.readers_writers.specs.Some.{some_push, count_push}
 use Rattle.readers_writers.specs.Leaving.{good_reading}
 use Rattle.readers_writers.specs.Sound.{ways, request_party, request_mode, request_holds}
+use Rattle.bank.specs.declared.request.Standing.TheVariants.{Holds}
 
 ordered_push : (es : List Entry) (x : Entry) → ordered es ≡ true → (some is_writer es || (is_writer x || x.holds)) ≡ true → ordered (es ++ (x ∷ [])) ≡ true
 ordered_push [] x o h = grind (arith, nat_tests)
@@ -65,7 +66,7 @@ all_hold b h k n (e ∷ es) o w =
     let a = p.0 in
     let t : e.holds ≡ true = grind (arith, nat_tests) in
     let more = all_hold b h k (n + cond (is_writer e) 1 0) es (grind (arith, nat_tests)) p.1 in
-    let a : Request = record { party = e.party; mode = e.mode; holds = true; turns = 0; departures = 0 } in
+    let a : Request = record { party = e.party; mode = e.mode; standing = Holds } in
     let one : request_of b h n e ≡ request_of b k n e = cond-true e.holds a _ t ∙ sym (cond-true e.holds a _ t) in
     ap (λ a. a ∷ requests_from b h (n + cond (is_writer e) 1 0) es) one ∙ ap (λ ys. request_of b k n e ∷ ys) more
 
@@ -88,7 +89,7 @@ added_by es x g how =
     record { request = a; list = requests_push b h 0 es x ∙ ap (λ ys. ys ++ (a ∷ [])) (same_requests es x g how); party = request_party b h (0 + count_of is_writer es) x; mode = request_mode b h (0 + count_of is_writer es) x; holds = request_holds b h (0 + count_of is_writer es) x }
 
 pub added : (es : List Entry) (p : ℕ) (m : Mode) → good es ≡ true → Added p m (admits es m) (requests es) (requests (entered es p m))
-added [] p Write g = record { request = record { party = p; mode = Write; holds = true; turns = 0; departures = 0 }; list = refl; party = refl; mode = refl; holds = refl }
+added [] p Write g = record { request = record { party = p; mode = Write; standing = Holds }; list = refl; party = refl; mode = refl; holds = refl }
 added (e ∷ es) p Write g = added_by (e ∷ es) (record { party = p; mode = Write; holds = false }) g (inl refl)
 added es p Read g = added_by es (record { party = p; mode = Read; holds = not (some is_writer es) }) g (⊎_elim (λ t. inl (not_from_true _ t)) (λ t. inr (t, refl)) (cases_Bool (some is_writer es)))
 

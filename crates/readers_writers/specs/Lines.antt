@@ -1,11 +1,12 @@
 -- A reader-writer resource: its entries in order of entry, each with its mode and whether it holds.
-use Rattle.std.specs.Prelude.{ℕ, ◌+◌, ◌-◌, ◌*◌, min, Bool, true, false, cond, not, ◌&&◌, List, [], ◌∷◌, ◌++◌, ◌==◌}
+use Rattle.std.specs.Prelude.{ℕ, ◌+◌, ◌-◌, ◌*◌, min, Bool, true, cond, not, ◌&&◌, List, [], ◌∷◌, ◌++◌, ◌==◌}
 use Rattle.std.specs.List.{list_any}
 use Rattle.bank.specs.Lists.{is_write}
 use Rattle.bank.specs.declared.request.Mode.{Mode}
 use Rattle.bank.specs.declared.request.Mode.TheVariants.{Write, Read}
 use Rattle.bank.specs.declared.request.Request.{Request}
 use Rattle.readers_writers.specs.declared.entry.Entry.{Entry}
+use Rattle.bank.specs.declared.request.Standing.TheVariants.{Holds, Waits}
 
 abbrev pub some : (Entry → Bool) → List Entry → Bool
 some test es = list_any test es
@@ -71,7 +72,7 @@ turns writing n Read = cond writing 1 2
 
 -- the entries as requests: whether a writer holds, how many hold, how many writers came before
 abbrev pub request_of : Bool → ℕ → ℕ → Entry → Request
-request_of writing h n e = cond e.holds (record { party = e.party; mode = e.mode; holds = true; turns = 0; departures = 0 }) (record { party = e.party; mode = e.mode; holds = false; turns = turns writing n e.mode; departures = h })
+request_of writing h n e = cond e.holds (record { party = e.party; mode = e.mode; standing = Holds }) (record { party = e.party; mode = e.mode; standing = Waits (turns writing n e.mode) h })
 
 abbrev pub requests_from : Bool → ℕ → ℕ → List Entry → List Request
 requests_from writing h n [] = []

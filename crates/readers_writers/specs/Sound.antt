@@ -26,7 +26,7 @@ module _ (f : Request → Bool) (g : Entry → Bool) (same : (b : Bool) (h n : �
   any_requests b h n (e ∷ es) = let a = same b h n e in let more = any_requests b h (n + cond (is_writer e) 1 0) es in cc
 
 -- a request has its entry's party, mode and holding
-fields : (b : Bool) (h n p : ℕ) (m : Mode) (g : Bool) → ((request_of b h n (record { party = p; mode = m; holds = g })).party ≡ p) × ((request_of b h n (record { party = p; mode = m; holds = g })).mode ≡ m) × ((request_of b h n (record { party = p; mode = m; holds = g })).holds ≡ g)
+fields : (b : Bool) (h n p : ℕ) (m : Mode) (g : Bool) → ((request_of b h n (record { party = p; mode = m; holds = g })).party ≡ p) × ((request_of b h n (record { party = p; mode = m; holds = g })).mode ≡ m) × (holds (request_of b h n (record { party = p; mode = m; holds = g })) ≡ g)
 fields b h n p m true = (refl, refl, refl)
 fields b h n p m false = (refl, refl, refl)
 
@@ -37,7 +37,7 @@ module _ (b : Bool) (h n : ℕ) (e : Entry) where
   pub request_mode : (request_of b h n e).mode ≡ e.mode
   request_mode = (fields b h n e.party e.mode e.holds).1
 
-  pub request_holds : (request_of b h n e).holds ≡ e.holds
+  pub request_holds : holds (request_of b h n e) ≡ e.holds
   request_holds = (fields b h n e.party e.mode e.holds).2
 
   writes_same : holds_write (request_of b h n e) ≡ holding_writer e

@@ -7,7 +7,7 @@ ghost use Rattle.readers_writers.specs.Places.{parted};
 
 use crate::entry::Entry;
 use arrayvec::ArrayVec;
-use bank::request::{Mode, Request};
+use bank::request::{Mode, Request, Standing};
 
 /// The active requests of one resource, in order of entry.
 #[derive(Drop, Default)]
@@ -146,21 +146,18 @@ impl Line {
         ensures { result ≡ slice_get (requests (list_of self.now)) at }
     {
         let e = *self.entries.get(at)?;
-        if e.holds {
-            return Some(Request {
-                party: e.party.into(),
-                mode: e.mode,
-                holds: true,
-                turns: 0,
-                departures: 0,
-            });
-        }
+        let standing = if e.holds {
+            Standing::Holds
+        } else {
+            Standing::Waits {
+                turns: turns(self.is_writing(), self.writers_before(at), e.mode),
+                departures: self.holders(),
+            }
+        };
         Some(Request {
             party: e.party.into(),
             mode: e.mode,
-            holds: false,
-            turns: turns(self.is_writing(), self.writers_before(at), e.mode),
-            departures: self.holders(),
+            standing,
         })
     }
 
@@ -179,7 +176,7 @@ impl Line {
     }
 }
 
-// Lets all reads hold.
+// Lets all reads hold: over a slice, since a loop over the `ArrayVec` leaves goals with no name for its items.
 fn reads_hold(es: &mut [Entry])
     ensures { es.new ≡ reads_hold es.old }
 {

@@ -2,7 +2,7 @@
 use Rattle.std.proofs.Common.{◌≡◌, ℕ, ◌+◌, ◌≤◌, Bool, true, false, cond, ◌&&◌, ◌||◌, eqb, List, [], ◌∷◌, ◌++◌, Some, None, Option, sym, refl, ap, ◌∙◌, arith}
 use Rattle.std.proofs.lemmas.Bool.{and_parts, or_left, eqb-true, eq-eqb, ne_eqb, false≢true}
 use Rattle.std.specs.List.{AllZip, AllByRecursion}
-use Rattle.bank.specs.Lists.{count, request_of, is_active, is_holder, holds_by, without}
+use Rattle.bank.specs.Lists.{count, request_of, is_active, is_holder, holds_by, without, holds}
 use Rattle.bank.specs.Meaning.{Stays}
 use Rattle.bank.specs.declared.request.Request.{Request}
 use Rattle.rules.specs.Moves.{is_held}
@@ -80,14 +80,14 @@ pub holder_held : (q : ℕ) (xs : List Request) → is_held (request_of q xs) �
 holder_held q [] e = absurd (false≢true e)
 holder_held q (y ∷ xs) e = go (holder_held q xs) (eqb y.party q) e
   where
-    go : (is_held (request_of q xs) ≡ true → is_holder q xs ≡ true) → (b : Bool) → is_held (cond b (Some y) (request_of q xs)) ≡ true → ((b && y.holds) || is_holder q xs) ≡ true
-    go ih true e = or_left y.holds (is_holder q xs) e
+    go : (is_held (request_of q xs) ≡ true → is_holder q xs ≡ true) → (b : Bool) → is_held (cond b (Some y) (request_of q xs)) ≡ true → ((b && holds y) || is_holder q xs) ≡ true
+    go ih true e = or_left (holds y) (is_holder q xs) e
     go ih false e = ih e
 
 -- another's leave takes no entry of q away
 module _ (p q : ℕ) (ne : p ≡ q → ⊥) where
   apart_entry : (y : Request) → holds_by p y ≡ true → eqb y.party q ≡ false
-  apart_entry y e = ne_eqb y.party q (λ k. ne (sym (eqb-true y.party p (and_parts (eqb y.party p) y.holds e).0) ∙ k))
+  apart_entry y e = ne_eqb y.party q (λ k. ne (sym (eqb-true y.party p (and_parts (eqb y.party p) (holds y) e).0) ∙ k))
 
   pub listed_without : (xs : List Request) → listed q (without p xs) ≡ listed q xs
   listed_without [] = refl
@@ -109,14 +109,14 @@ holder_listed : (p : ℕ) (xs : List Request) → is_holder p xs ≡ true → 1 
 holder_listed p [] h = absurd (false≢true h)
 holder_listed p (y ∷ xs) h = go (holder_listed p xs) (eqb y.party p) h
   where
-    go : (is_holder p xs ≡ true → 1 ≤ listed p xs) → (b : Bool) → ((b && y.holds) || is_holder p xs) ≡ true → 1 ≤ cond b 1 0 + listed p xs
+    go : (is_holder p xs ≡ true → 1 ≤ listed p xs) → (b : Bool) → ((b && holds y) || is_holder p xs) ≡ true → 1 ≤ cond b 1 0 + listed p xs
     go ih true h = omega arith
     go ih false h = omega (arith, ih h)
 
 -- a holder that was listed once is not listed after it left
 pub listed_gone : (p : ℕ) (xs : List Request) → is_holder p xs ≡ true → listed p xs ≡ 1 → listed p (without p xs) ≡ 0
 listed_gone p [] h e = absurd (false≢true h)
-listed_gone p (y ∷ xs) h e = go (listed_gone p xs) (eqb y.party p) y.holds refl h e
+listed_gone p (y ∷ xs) h e = go (listed_gone p xs) (eqb y.party p) (holds y) refl h e
   where
     none : 1 ≤ listed p xs → 1 + listed p xs ≡ 1 → ⊥
     none a b = omega arith

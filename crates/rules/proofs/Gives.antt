@@ -2,7 +2,7 @@
 use Rattle.std.proofs.Common.{◌≡◌, ℕ, zero, suc, ◌<◌, ◌≤◌, max, Bool, true, false, cond, not, ◌&&◌, eqb, ◌⊎◌, length, is_some, Some, None, Option, unwrap_or, sym, refl, ap, ◌∙◌, subst, inl, inr, ⊎_elim, arith}
 use Rattle.std.proofs.lemmas.Bool.{eqb-true, eqb-false, eq-eqb, ne_eqb, and_parts, false≢true, both_ways, cases_eq, cases_Bool, cond-true, cond-false}
 use Rattle.std.specs.List.{AllZip, AllByRecursion}
-use Rattle.bank.specs.Lists.{request_of, is_holder, without}
+use Rattle.bank.specs.Lists.{request_of, is_holder, without, holds}
 use Rattle.bank.specs.Meaning.{Lists, Sound, Stays}
 use Rattle.bank.specs.declared.request.Request.{Request}
 use Rattle.plan.specs.Contents.{length_at, longest_at, greatest}
@@ -50,11 +50,11 @@ pub listed_at : (a : Setup) (n : ℕ) (ls : Lists) (q : ℕ) (k : TaskWords) →
 listed_at a n ls q k t r lr l = at_of k r k.wanted k.issued refl refl (subst (λ (m : ℕ). 1 ≤ m) (t.once r lr) l)
 
 -- its entry tells whether it holds
-pub held_entry : (q r : ℕ) (k : TaskWords) (ls : Lists) (x : Request) → At k r → request_of q (ls r) ≡ Some x → held_in q k ls ≡ x.holds
+pub held_entry : (q r : ℕ) (k : TaskWords) (ls : Lists) (x : Request) → At k r → request_of q (ls r) ≡ Some x → held_in q k ls ≡ holds x
 held_entry q r k ls x at e =
     ap (λ (b : Bool). b && is_held (entry_of q k.wanted ls)) at.issued ∙ ap (λ (o : Option Wanted). is_held (entry_of q o ls)) at.is ∙ ap (λ (z : ℕ). is_held (request_of q (ls z))) at.there ∙ ap is_held e
 
-pub waits_entry : (q r : ℕ) (k : TaskWords) (ls : Lists) (x : Request) → At k r → request_of q (ls r) ≡ Some x → waits_in q k ls ≡ not x.holds
+pub waits_entry : (q r : ℕ) (k : TaskWords) (ls : Lists) (x : Request) → At k r → request_of q (ls r) ≡ Some x → waits_in q k ls ≡ not (holds x)
 waits_entry q r k ls x at e =
     ap (λ (b : Bool). b && is_queued (entry_of q k.wanted ls)) at.issued ∙ ap (λ (o : Option Wanted). is_queued (entry_of q o ls)) at.is ∙ ap (λ (z : ℕ). is_queued (request_of q (ls z))) at.there ∙ ap is_queued e
 
@@ -76,20 +76,20 @@ module _ (a : Setup) (known : a.tasks ≤ length a.plan.tasks) (e : ℕ → Bool
 
   -- no holder has used more than the longest length
   pub within : (r : ℕ) → r < a.resources → Within (longest_at a.plan r) (λ q. (ks q).used) (ls r)
-  within r lr = entries r lr (λ x. x.holds ≡ true → (ks x.party).used ≤ longest_at a.plan r) (λ q x p f at h.
+  within r lr = entries r lr (λ x. holds x ≡ true → (ks x.party).used ≤ longest_at a.plan r) (λ q x p f at h.
       let l = (i.tasks q).in_time at.wanted at.is (held_entry q r (ks q) ls x at f ∙ h) in
       let m : length_for a q at.wanted.resource ≡ length_for a q r = ap (length_for a q) at.there in
       let u : (ks x.party).used ≡ (ks q).used = ap (λ (z : ℕ). (ks z).used) p in
       omega (arith, l, m, u, length_longest a q r (omega (arith, exists q r at, known))))
 
 -- a holder gives back
-module _ (a : Setup) (known : a.tasks ≤ length a.plan.tasks) (ks ks' : ℕ → TaskWords) (ls ls' : Lists) (n p r : ℕ) (i : Inv a nobody ks ls n) (lr : r < a.resources) (at : At (ks p) r) (holds : held_in p (ks p) ls ≡ true)
+module _ (a : Setup) (known : a.tasks ≤ length a.plan.tasks) (ks ks' : ℕ → TaskWords) (ls ls' : Lists) (n p r : ℕ) (i : Inv a nobody ks ls n) (lr : r < a.resources) (at : At (ks p) r) (held : held_in p (ks p) ls ≡ true)
     (stays : AllZip Stays (without p (ls r)) (ls' r))
     (others : (q : ℕ) → q < a.resources → (q ≡ r → ⊥) → ls' q ≡ ls q)
     (sound' : (r : ℕ) → r < a.resources → Sound a.told r (ls' r))
     (c : Changed ks ks' p (record { job = (ks p).job; wanted = None; issued = false; used = 0; waited = 0; job_waited = (ks p).job_waited; blocked = (ks p).blocked })) where
   holder : is_holder p (ls r) ≡ true
-  holder = holder_held p (ls r) (sym (ap (λ (b : Bool). b && is_held (entry_of p (ks p).wanted ls)) at.issued ∙ ap (λ (o : Option Wanted). is_held (entry_of p o ls)) at.is ∙ ap (λ (z : ℕ). is_held (request_of p (ls z))) at.there) ∙ holds)
+  holder = holder_held p (ls r) (sym (ap (λ (b : Bool). b && is_held (entry_of p (ks p).wanted ls)) at.issued ∙ ap (λ (o : Option Wanted). is_held (entry_of p o ls)) at.is ∙ ap (λ (z : ℕ). is_held (request_of p (ls z))) at.there) ∙ held)
 
   here : (r' : ℕ) → r' < a.resources → listed p (ls r') ≡ cond (eqb r r') 1 0
   here r' l = (i.tasks p).once r' l ∙ ap (λ (b : Bool). cond (b && is_at r' (ks p).wanted) 1 0) at.issued ∙ ap (λ (o : Option Wanted). cond (is_at r' o) 1 0) at.is ∙ ap (λ (z : ℕ). cond (eqb z r') 1 0) at.there
@@ -112,10 +112,10 @@ module _ (a : Setup) (known : a.tasks ≤ length a.plan.tasks) (ks ks' : ℕ →
         go (inr off) = ap (listed q) (others r' l off)
 
     -- another's entry stays, at whatever resource
-    pub left_entry : (r' : ℕ) → r' < a.resources → (x : Request) → request_of q (ls r') ≡ Some x → (y : Request) × (request_of q (ls' r') ≡ Some y) × (y.mode ≡ x.mode) × (x.holds ≡ true → y.holds ≡ true)
+    pub left_entry : (r' : ℕ) → r' < a.resources → (x : Request) → request_of q (ls r') ≡ Some x → (y : Request) × (request_of q (ls' r') ≡ Some y) × (y.mode ≡ x.mode) × (holds x ≡ true → holds y ≡ true)
     left_entry r' l x e = go (cases_eq r' r)
       where
-        go : (r' ≡ r) ⊎ (r' ≡ r → ⊥) → (y : Request) × (request_of q (ls' r') ≡ Some y) × (y.mode ≡ x.mode) × (x.holds ≡ true → y.holds ≡ true)
+        go : (r' ≡ r) ⊎ (r' ≡ r → ⊥) → (y : Request) × (request_of q (ls' r') ≡ Some y) × (y.mode ≡ x.mode) × (holds x ≡ true → holds y ≡ true)
         go (inl f) =
             let at-r : request_of q (ls r) ≡ Some x = ap (λ (z : ℕ). request_of q (ls z)) (sym f) ∙ e in
             let s = request_stays q (without p (ls r)) (ls' r) stays x (request_without p q (eqb-false p q ne) (ls r) ∙ at-r) in

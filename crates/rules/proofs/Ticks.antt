@@ -2,7 +2,7 @@
 use Rattle.std.proofs.Common.{◌≡◌, ℕ, ◌+◌, ◌*◌, ◌<◌, ◌≤◌, Bool, true, false, cond, not, ◌&&◌, eqb, List, [], ◌∷◌, length, is_some, Some, None, Option, sym, refl, ap, ◌∙◌, subst, arith}
 use Rattle.std.proofs.lemmas.Bool.{eq-eqb, false≢true, both_ways, cond-true, not-true}
 use Rattle.std.specs.List.{AllByRecursion}
-use Rattle.bank.specs.Lists.{request_of}
+use Rattle.bank.specs.Lists.{request_of, holds}
 use Rattle.bank.specs.Meaning.{Lists}
 use Rattle.bank.specs.declared.request.Request.{Request}
 use Rattle.plan.specs.Contents.{longest_at}
@@ -45,7 +45,7 @@ held_or_waits a n ls q k t f = go k.wanted refl
     go (Some w) e =
         let x = entry_of_lem a n ls q k t w e f in
         let at : At k w.resource = record { wanted = w; is = e; there = refl; issued = f } in
-        held_entry q w.resource k ls x.0 at x.1 ∙ twice x.0.holds ∙ ap not (sym (waits_entry q w.resource k ls x.0 at x.1))
+        held_entry q w.resource k ls x.0 at x.1 ∙ twice (holds x.0) ∙ ap not (sym (waits_entry q w.resource k ls x.0 at x.1))
       where
         twice : (b : Bool) → b ≡ not (not b)
         twice true = refl
@@ -97,7 +97,7 @@ module _ (a : Setup) (known : a.tasks ≤ length a.plan.tasks) (ks : ℕ → Tas
   in_time_lem q w e f = rw f (omega (arith, early q w e f))
 
   within_tick : (r : ℕ) → r < a.resources → Within (longest_at a.plan r) (λ q. (ticking q).used) (ls r)
-  within_tick r lr = entries a known nobody ks ls n i r lr (λ x. x.holds ≡ true → (ticking x.party).used ≤ longest_at a.plan r) (λ q x p f at h.
+  within_tick r lr = entries a known nobody ks ls n i r lr (λ x. holds x ≡ true → (ticking x.party).used ≤ longest_at a.plan r) (λ q x p f at h.
       let l = in_time_lem q at.wanted at.is (held_entry q r (ks q) ls x at f ∙ h) in
       let m : length_for a q at.wanted.resource ≡ length_for a q r = ap (length_for a q) at.there in
       let u : (ticking x.party).used ≡ (ticking q).used = ap (λ (z : ℕ). (ticking z).used) p in
@@ -106,7 +106,7 @@ module _ (a : Setup) (known : a.tasks ≤ length a.plan.tasks) (ks : ℕ → Tas
   owed_ticking : (r : ℕ) → r < a.resources → OwedAll a.told r (longest_at a.plan r) (λ q. (ticking q).used) (λ q. (ticking q).waited) (ls r)
   owed_ticking r lr =
       owed_tick a.told r (longest_at a.plan r) (ls r) (λ q. (ks q).used) (λ q. (ks q).waited) (λ q. (ticking q).used) (λ q. (ticking q).waited)
-      (entries a known nobody ks ls n i r lr (λ x. x.holds ≡ true → (ticking x.party).used ≡ (ks x.party).used + 1) (λ q x p f at h. subst (λ (z : ℕ). (ticking z).used ≡ (ks z).used + 1) (sym p) (rw (held_entry q r (ks q) ls x at f ∙ h) refl)))
+      (entries a known nobody ks ls n i r lr (λ x. holds x ≡ true → (ticking x.party).used ≡ (ks x.party).used + 1) (λ q x p f at h. subst (λ (z : ℕ). (ticking z).used ≡ (ks z).used + 1) (sym p) (rw (held_entry q r (ks q) ls x at f ∙ h) refl)))
       (entries a known nobody ks ls n i r lr (λ x. (ticking x.party).waited ≤ (ks x.party).waited + 1) (λ q x p f at. bit (waits_in x.party (ks x.party) ls) (ks x.party).waited))
       (i.owed r lr)
     where
@@ -123,9 +123,9 @@ module _ (a : Setup) (known : a.tasks ≤ length a.plan.tasks) (ks : ℕ → Tas
           let lr = ((i.tasks q).placed w e).there in
           let x = entry_of_lem a n ls q (ks q) (i.tasks q) w e f in
           let at : At (ks q) w.resource = record { wanted = w; is = e; there = refl; issued = f } in
-          let b = all_at (λ x. x.holds ≡ false → (ticking x.party).waited ≤ a.told.limit w.resource x.mode * longest_at a.plan w.resource) q (ls w.resource) x.0
+          let b = all_at (λ x. holds x ≡ false → (ticking x.party).waited ≤ a.told.limit w.resource x.mode * longest_at a.plan w.resource) q (ls w.resource) x.0
           (owed_bound a.told w.resource (longest_at a.plan w.resource) (ls w.resource) (λ q. (ticking q).used) (λ q. (ticking q).waited) (within_tick w.resource lr) (i.sound w.resource lr) (owed_ticking w.resource lr)) x.1 in
-          let off : x.0.holds ≡ false = not-true x.0.holds (sym (waits_entry q w.resource (ks q) ls x.0 at x.1) ∙ h) in
+          let off : holds x.0 ≡ false = not-true (holds x.0) (sym (waits_entry q w.resource (ks q) ls x.0 at x.1) ∙ h) in
           let party : x.0.party ≡ q = (request_party q (ls w.resource) x.0 x.1).0 in
           let mode : x.0.mode ≡ w.mode = (i.tasks q).mode w e x.0 x.1 in
           let b2 = b off in

@@ -3,7 +3,7 @@ use Rattle.std.proofs.Common.{◌≡◌, ℕ, ◌+◌, ◌-◌, ◌*◌, ◌<◌
 use Rattle.std.specs.List.{AllZip, AllByRecursion}
 use Rattle.std.proofs.ByRecursion.{All-weaker, All-push}
 use Rattle.std.proofs.lemmas.Bool.{and_parts, and_from, leb-true, le-leb, both_ways, false≢true}
-use Rattle.bank.specs.Lists.{count, holders, holds_by, without}
+use Rattle.bank.specs.Lists.{count, holders, holds_by, without, holds, turns, departures}
 use Rattle.bank.specs.Meaning.{Lawful, Sound, Stays}
 use Rattle.bank.specs.Questions.{Told}
 use Rattle.bank.specs.declared.request.Request.{Request}
@@ -55,14 +55,14 @@ all_without P p (x ∷ xs) h =
 
 -- the holders that have held, with c ticks more, at least w ticks
 abbrev pub long : (ℕ → ℕ) → ℕ → ℕ → Request → Bool
-long u c w x = x.holds && leb w (u x.party + c)
+long u c w x = holds x && leb w (u x.party + c)
 
 abbrev pub good : (ℕ → ℕ) → ℕ → ℕ → List Request → ℕ
 good u c w xs = count (long u c w) xs
 
 -- no holder has held longer than l ticks
 abbrev pub Within : ℕ → (ℕ → ℕ) → List Request → Type 0
-Within l u xs = AllByRecursion (λ x. x.holds ≡ true → u x.party ≤ l) xs
+Within l u xs = AllByRecursion (λ x. holds x ≡ true → u x.party ≤ l) xs
 
 -- where there is one, w is at most a whole length more than c
 good_some : (u : ℕ → ℕ) (c w l : ℕ) (xs : List Request) → Within l u xs → 1 ≤ good u c w xs → w ≤ l + c
@@ -71,7 +71,7 @@ good_some u c w l (x ∷ xs) most h = go (long u c w x) refl (good_some u c w l 
   where
     go : (b : Bool) → long u c w x ≡ b → (1 ≤ good u c w xs → w ≤ l + c) → 1 ≤ cond b 1 0 + good u c w xs → w ≤ l + c
     go true e more h =
-        let parts = and_parts x.holds (leb w (u x.party + c)) e in
+        let parts = and_parts (holds x) (leb w (u x.party + c)) e in
         omega (arith, leb-true w (u x.party + c) parts.1, most.0 parts.0)
     go false e more h = more (omega arith)
 
@@ -79,7 +79,7 @@ good_some u c w l (x ∷ xs) most h = go (long u c w x) refl (good_some u c w l 
 good_all : (u : ℕ → ℕ) (c w : ℕ) (xs : List Request) → w ≤ c → holders xs ≤ good u c w xs
 good_all u c w [] h = omega arith
 good_all u c w (x ∷ xs) h =
-    step_le x.holds (long u c w x) (holders xs) (good u c w xs) (λ e. and_from x.holds (leb w (u x.party + c)) e (le-leb w (u x.party + c) (omega arith))) (good_all u c w xs h)
+    step_le (holds x) (long u c w x) (holders xs) (good u c w xs) (λ e. and_from (holds x) (leb w (u x.party + c)) e (le-leb w (u x.party + c) (omega arith))) (good_all u c w xs h)
 
 -- a whole turn more covers what was waited
 turn_more : (n a b l w : ℕ) → b < a → a ≤ n → w ≤ l + (n - a) * l → w ≤ (n - b) * l
@@ -94,17 +94,17 @@ was_waiting false y h e = refl
 module _ (t : Told) (r l : ℕ) where
   -- the ticks that the turns gone by allow
   abbrev spent : Request → ℕ
-  spent x = (t.limit r x.mode - x.turns) * l
+  spent x = (t.limit r x.mode - turns x) * l
 
   -- what is owed to a waiting request: so many holders that have held long enough. u and w are the ticks used and waited, by party
   abbrev pub Owed : List Request → (ℕ → ℕ) → (ℕ → ℕ) → Request → Type 0
-  Owed xs u w x = x.holds ≡ false → x.departures ≤ good u ((t.limit r x.mode - x.turns) * l) (w x.party) xs
+  Owed xs u w x = holds x ≡ false → departures x ≤ good u ((t.limit r x.mode - turns x) * l) (w x.party) xs
 
   abbrev pub OwedAll : (ℕ → ℕ) → (ℕ → ℕ) → List Request → Type 0
   OwedAll u w xs = AllByRecursion (Owed xs u w) xs
 
   -- a tick: every holder has held one tick more
-  pub owed_tick : (xs : List Request) (u w u' w' : ℕ → ℕ) → AllByRecursion (λ x. x.holds ≡ true → u' x.party ≡ u x.party + 1) xs → AllByRecursion (λ x. w' x.party ≤ w x.party + 1) xs
+  pub owed_tick : (xs : List Request) (u w u' w' : ℕ → ℕ) → AllByRecursion (λ x. holds x ≡ true → u' x.party ≡ u x.party + 1) xs → AllByRecursion (λ x. w' x.party ≤ w x.party + 1) xs
       → OwedAll u w xs → OwedAll u' w' xs
   owed_tick xs u w u' w' used waited o =
       All-weaker (λ x. Owed xs u w x × (w' x.party ≤ w x.party + 1)) (Owed xs u' w')
@@ -114,10 +114,10 @@ module _ (t : Told) (r l : ℕ) where
       more : (c v v' : ℕ) → v' ≤ v + 1 → good u c v xs ≤ good u' c v' xs
       more c v v' hv =
           count_every (long u c v) (long u' c v') xs
-          (All-weaker (λ x. x.holds ≡ true → u' x.party ≡ u x.party + 1) (λ x. long u c v x ≡ true → long u' c v' x ≡ true)
+          (All-weaker (λ x. holds x ≡ true → u' x.party ≡ u x.party + 1) (λ x. long u c v x ≡ true → long u' c v' x ≡ true)
           (λ x on e.
-          let parts = and_parts x.holds (leb v (u x.party + c)) e in
-          and_from x.holds (leb v' (u' x.party + c)) parts.0 (le-leb v' (u' x.party + c) (omega (arith, on parts.0, leb-true v (u x.party + c) parts.1))))
+          let parts = and_parts (holds x) (leb v (u x.party + c)) e in
+          and_from (holds x) (leb v' (u' x.party + c)) parts.0 (le-leb v' (u' x.party + c) (omega (arith, on parts.0, leb-true v (u x.party + c) parts.1))))
           xs used)
 
   -- the ticks of no party in the list change
@@ -145,19 +145,19 @@ module _ (t : Told) (r l : ℕ) where
   module _ (xs ys : List Request) (u w : ℕ → ℕ) (most : Within l u xs) (less : (c v : ℕ) → good u c v xs ≤ good u c v ys + 1) where
     leave_one : (x y : Request) → Stays x y → Lawful t r (holders xs) x → Lawful t r (holders ys) y → Owed xs u w x → Owed ys u w y
     leave_one x y s lx ly owed waits =
-        let wx : x.holds ≡ false = was_waiting x.holds y.holds s.holding waits in
+        let wx : holds x ≡ false = was_waiting (holds x) (holds y) s.holding waits in
         let d = owed wx in
         let tx = lx.waiting wx in
         let ty = ly.waiting waits in
         rw (s.party, s.mode) (⊎_elim
-        (λ e. absurd (both_ways y.holds waits e))
+        (λ e. absurd (both_ways (holds y) waits e))
         (⊎_elim
         (λ e. rw e.0 (omega (arith, d, e.1, less (spent x) (w x.party))))
         (λ lt.
         let k : 1 ≤ good u (spent x) (w x.party) xs = omega (arith, d, tx.2) in
         let h = good_some u (spent x) (w x.party) l xs most k in
-        let c = turn_more (t.limit r x.mode) x.turns y.turns l (w x.party) lt tx.1 h in
-        omega (arith, ty.3, good_all u ((t.limit r x.mode - y.turns) * l) (w x.party) ys c)))
+        let c = turn_more (t.limit r x.mode) (turns x) (turns y) l (w x.party) lt tx.1 h in
+        omega (arith, ty.3, good_all u ((t.limit r x.mode - turns y) * l) (w x.party) ys c)))
         (s.waiting wx))
 
     leave_list : (cs bs : List Request) → AllZip Stays cs bs → AllByRecursion (Lawful t r (holders xs)) cs → AllByRecursion (Lawful t r (holders ys)) bs → AllByRecursion (Owed xs u w) cs → AllByRecursion (Owed ys u w) bs
@@ -176,19 +176,19 @@ module _ (t : Told) (r l : ℕ) where
         count_without (long u c v) p xs,
         count_stays (long u c v) (long u c v) (without p xs) ys
             (λ x y st e.
-            let parts = and_parts x.holds (leb v (u x.party + c)) e in
-            and_from y.holds (leb v (u y.party + c)) (st.holding parts.0) (rw st.party parts.1)) s,
+            let parts = and_parts (holds x) (leb v (u x.party + c)) e in
+            and_from (holds y) (leb v (u y.party + c)) (st.holding parts.0) (rw st.party parts.1)) s,
       ))
       (without p xs) ys s (all_without (Lawful t r (holders xs)) p xs sx.requests) sy.requests (all_without (Owed xs u w) p xs o)
 
   -- what is owed keeps the wait within the limit
-  pub owed_bound : (xs : List Request) (u w : ℕ → ℕ) → Within l u xs → Sound t r xs → OwedAll u w xs → AllByRecursion (λ x. x.holds ≡ false → w x.party ≤ t.limit r x.mode * l) xs
+  pub owed_bound : (xs : List Request) (u w : ℕ → ℕ) → Within l u xs → Sound t r xs → OwedAll u w xs → AllByRecursion (λ x. holds x ≡ false → w x.party ≤ t.limit r x.mode * l) xs
   owed_bound xs u w most s o =
-      All-weaker (λ x. Lawful t r (holders xs) x × Owed xs u w x) (λ x. x.holds ≡ false → w x.party ≤ t.limit r x.mode * l)
+      All-weaker (λ x. Lawful t r (holders xs) x × Owed xs u w x) (λ x. holds x ≡ false → w x.party ≤ t.limit r x.mode * l)
       (λ x h e.
       let q = h.0.waiting e in
       let k : 1 ≤ good u (spent x) (w x.party) xs = omega (arith, h.1 e, q.2) in
-      let b = turn_more (t.limit r x.mode) x.turns 0 l (w x.party) q.0 q.1 (good_some u (spent x) (w x.party) l xs most k) in
+      let b = turn_more (t.limit r x.mode) (turns x) 0 l (w x.party) q.0 q.1 (good_some u (spent x) (w x.party) l xs most k) in
       let z : t.limit r x.mode - 0 ≡ t.limit r x.mode = omega arith in
       rw z at b) xs
       (all_both (Lawful t r (holders xs)) (Owed xs u w) xs s.requests o)

@@ -1,6 +1,6 @@
 -- What each call does to the controller's records.
 use Rattle.std.specs.Prelude.{◌≡◌, ℕ, ◌+◌, Bool, true, false, cond, not, ◌&&◌, List, Some, None, Ok, Err, Option, ◌==◌}
-use Rattle.bank.specs.Lists.{request_of}
+use Rattle.bank.specs.Lists.{request_of, holds}
 use Rattle.bank.specs.Meaning.{Lists}
 use Rattle.bank.specs.declared.request.Request.{Request}
 use Rattle.rules.specs.Answers.{Event, made, released, asked, gave, finished, ticked, Answered}
@@ -14,11 +14,11 @@ use Rattle.rules.specs.declared.task.Task.{Task}
 -- a bank's entry of a task, as far as there is one: it holds, or it waits
 abbrev pub is_held : Option Request → Bool
 is_held None = false
-is_held (Some x) = x.holds
+is_held (Some x) = holds x
 
 abbrev pub is_queued : Option Request → Bool
 is_queued None = false
-is_queued (Some x) = not x.holds
+is_queued (Some x) = not (holds x)
 
 -- a task that waited at r, and that the bank now lists as holding, holds with 0 used
 abbrev pub let_in_state : ℕ → Bool → State → Task → Task

@@ -1,7 +1,8 @@
 -- A slot resource for k holders: its parties in order of entry, of whom the first k hold.
-use Rattle.std.specs.Prelude.{ℕ, ◌+◌, ◌-◌, ◌/◌, ◌%◌, true, false, cond, List, [], ◌∷◌, take, drop, nat_lt}
+use Rattle.std.specs.Prelude.{ℕ, ◌+◌, ◌-◌, ◌/◌, ◌%◌, cond, List, [], ◌∷◌, take, drop, nat_lt}
 use Rattle.bank.specs.declared.request.Mode.TheVariants.{Write}
 use Rattle.bank.specs.declared.request.Request.{Request}
+use Rattle.bank.specs.declared.request.Standing.TheVariants.{Holds, Waits}
 
 -- who holds, and who waits, the next one first
 abbrev pub holding : ℕ → List ℕ → List ℕ
@@ -13,7 +14,7 @@ line k parties = drop k parties
 -- the request of a party at place i of the list, counted from 0. At place p of the line, counted from 1,
 -- it has (p - 1) / k + 1 turns and (p - 1) mod k + 1 departures left; here p - 1 is i - k
 abbrev pub request_at : ℕ → ℕ → ℕ → Request
-request_at k i p = cond (nat_lt i k) (record { party = p; mode = Write; holds = true; turns = 0; departures = 0 }) (record { party = p; mode = Write; holds = false; turns = (i - k) / k + 1; departures = (i - k) % k + 1 })
+request_at k i p = cond (nat_lt i k) (record { party = p; mode = Write; standing = Holds }) (record { party = p; mode = Write; standing = Waits ((i - k) / k + 1) ((i - k) % k + 1) })
 
 abbrev pub requests_from : ℕ → ℕ → List ℕ → List Request
 requests_from k i [] = []

@@ -1,7 +1,7 @@
 -- What a bank of slot resources tells of itself, and its active requests.
 use Rattle.std.specs.Prelude.{◌≡◌, ℕ, ◌<◌, Bool, true, false, not, List, [], ◌∷◌, ◌++◌, length, take, drop, Some, None, Ok, Err, Option, Result, ◌≢◌, nat_lt, slice_index, slice_index_or}
 use Rattle.std.specs.List.{remove}
-use Rattle.bank.specs.Lists.{any, holders}
+use Rattle.bank.specs.Lists.{any, holders, holds}
 use Rattle.bank.specs.Questions.{Told, number}
 use Rattle.bank.specs.declared.refusal.Refusal.{Refusal}
 use Rattle.bank.specs.declared.request.Request.{Request}
@@ -29,7 +29,7 @@ abbrev pub OthersStay : ℕ → Slots → Slots → Type 0
 OthersStay r old new = (q : ℕ) → (q ≢ r) → parties_of new q ≡ parties_of old q
 
 abbrev pub waits : Request → Bool
-waits a = not a.holds
+waits a = not (holds a)
 
 -- something waits only while k hold
 abbrev pub Full : Slots → Type 0

@@ -14,13 +14,14 @@ use Rattle.bank.specs.Meaning.{Lawful, Sound, Stays}
 use Rattle.slots.specs.Lines.{request_at, requests_from, requests, turn_limit}
 use Rattle.slots.specs.Of.{waits}
 use Rattle.slots.specs.Rows.{place}
+use Rattle.bank.specs.declared.request.Standing.TheVariants.{Holds, Waits}
 
 -- one that holds, and one that waits
 abbrev held : ℕ → Request
-held p = record { party = p; mode = Write; holds = true; turns = 0; departures = 0 }
+held p = record { party = p; mode = Write; standing = Holds }
 
 abbrev waiting : ℕ → ℕ → ℕ → Request
-waiting k i p = record { party = p; mode = Write; holds = false; turns = (i - k) / k + 1; departures = (i - k) % k + 1 }
+waiting k i p = record { party = p; mode = Write; standing = Waits ((i - k) / k + 1) ((i - k) % k + 1) }
 
 at_front : (k i p : ℕ) → i < k → request_at k i p ≡ held p
 at_front k i p l = cond-true (nat_lt i k) _ _ (lt-ltb i k l)
@@ -31,8 +32,8 @@ in_line k i p l = cond-false (nat_lt i k) _ _ (le-ltb i k l)
 pub request_party : (k i p : ℕ) → (request_at k i p).party ≡ p
 request_party k i p = ⊎_elim (λ l. ap (λ (a : Request). a.party) (at_front k i p l)) (λ l. ap (λ (a : Request). a.party) (in_line k i p l)) (cases_lt i k)
 
-pub request_holds : (k i p : ℕ) → (request_at k i p).holds ≡ nat_lt i k
-request_holds k i p = ⊎_elim (λ l. ap (λ (a : Request). a.holds) (at_front k i p l) ∙ sym (lt-ltb i k l)) (λ l. ap (λ (a : Request). a.holds) (in_line k i p l) ∙ sym (le-ltb i k l)) (cases_lt i k)
+pub request_holds : (k i p : ℕ) → holds (request_at k i p) ≡ nat_lt i k
+request_holds k i p = ⊎_elim (λ l. ap holds (at_front k i p l) ∙ sym (lt-ltb i k l)) (λ l. ap holds (in_line k i p l) ∙ sym (le-ltb i k l)) (cases_lt i k)
 
 pub request_mode : (k i p : ℕ) → (request_at k i p).mode ≡ Write
 request_mode k i p = ⊎_elim (λ l. ap (λ (a : Request). a.mode) (at_front k i p l)) (λ l. ap (λ (a : Request). a.mode) (in_line k i p l)) (cases_lt i k)
@@ -69,7 +70,7 @@ pub holder_is : (k i p : ℕ) (ps : List ℕ) → is_holder p (requests_from k i
 holder_is k i p [] = refl
 holder_is k i p (q ∷ ps) =
     let tail : ((q == p && nat_lt i k) || (nat_lt (place p ps) (length ps) && nat_lt ((i + 1) + place p ps) k)) ≡ (nat_lt (place p (q ∷ ps)) (suc (length ps)) && nat_lt (i + place p (q ∷ ps)) k) = grind (arith, nat_tests) in
-    ap (λ n. (n == p && (request_at k i q).holds) || is_holder p (requests_from k (i + 1) ps)) (request_party k i q)
+    ap (λ n. (n == p && holds (request_at k i q)) || is_holder p (requests_from k (i + 1) ps)) (request_party k i q)
     ∙ (ap (λ h. (q == p && h) || is_holder p (requests_from k (i + 1) ps)) (request_holds k i q)
     ∙ (ap (λ b. (q == p && nat_lt i k) || b) (holder_is k (i + 1) p ps) ∙ tail))
 
@@ -187,7 +188,7 @@ pub leaves_front : (k i p : ℕ) (ps : List ℕ) → 1 ≤ k → place p ps < le
 leaves_front k i p [] pos l f = absurd (omega arith)
 leaves_front k i p (q ∷ ps) pos l f =
     let rest = requests_from k (i + 1) ps in
-    let by : holds_by p (request_at k i q) ≡ (q == p && nat_lt i k) = ap (λ n. (n == p) && (request_at k i q).holds) (request_party k i q) ∙ ap (λ h. (q == p) && h) (request_holds k i q) in
+    let by : holds_by p (request_at k i q) ≡ (q == p && nat_lt i k) = ap (λ n. (n == p) && holds (request_at k i q)) (request_party k i q) ∙ ap (λ h. (q == p) && h) (request_holds k i q) in
     ⊎_elim
     (λ (e : q ≡ p).
     let j = place_here p q ps e in

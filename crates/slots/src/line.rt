@@ -4,7 +4,7 @@ ghost use Rattle.bank.specs.Lists.{is_active, is_holder, request_of};
 ghost use Rattle.slots.specs.Lines.{request_at, requests};
 ghost use Rattle.slots.specs.Rows.{row, place};
 
-use bank::request::{Mode, Request};
+use bank::request::{Mode, Request, Standing};
 use byte_vec::byte_vec::ByteVec;
 
 /// A resource with so many slots, and its parties in order of entry.
@@ -63,22 +63,18 @@ impl Line {
     {
         let k = self.holders();
         let place = place as u32;
-        if place < k {
-            Request {
-                party: party.into(),
-                mode: Mode::Write,
-                holds: true,
-                turns: 0,
-                departures: 0,
-            }
+        let standing = if place < k {
+            Standing::Holds
         } else {
-            Request {
-                party: party.into(),
-                mode: Mode::Write,
-                holds: false,
+            Standing::Waits {
                 turns: (place - k) / k + 1,
                 departures: (place - k) % k + 1,
             }
+        };
+        Request {
+            party: party.into(),
+            mode: Mode::Write,
+            standing,
         }
     }
 

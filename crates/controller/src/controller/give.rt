@@ -25,7 +25,7 @@ fn let_in<B: Bank>(bank: &B, resource: u32, task: u32, job: Task) -> Task
         return job;
     }
     match bank.request_of(resource, task) {
-        Ok(Some(request)) if request.holds => in_state(job, State::Holding(wanted)),
+        Ok(Some(request)) if request.holds() => in_state(job, State::Holding(wanted)),
         _ => job,
     }
 }

@@ -42,6 +42,7 @@ impl ReadersWriters {
         if self.lines[at].active() >= self.seats {
             return Err(Refusal::NoSeat);
         }
+        // an element within a struct that has ghost fields is lent only through a loan of its array
         let lines = &mut self.lines;
         Ok(lines[at].enter(party as u8, mode))
     }
@@ -60,6 +61,7 @@ impl ReadersWriters {
         let Some(holder) = self.lines[at].holder(party as u8) else {
             return Err(Refusal::NotHolding);
         };
+        // an element within a struct that has ghost fields is lent only through a loan of its array
         let lines = &mut self.lines;
         lines[at].leave(holder);
         Ok(())

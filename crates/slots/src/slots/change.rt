@@ -40,6 +40,7 @@ impl Slots {
         if line.size() >= self.seats {
             return Err(Refusal::NoSeat);
         }
+        // an element within a struct that has ghost fields is lent only through a loan of its array
         let lines = &mut self.lines;
         lines[at].push(party as u8);
         Ok(line.size() < line.holders())
@@ -58,6 +59,7 @@ impl Slots {
         let Some(place) = self.lines[at].holder(party as u8) else {
             return Err(Refusal::NotHolding);
         };
+        // an element within a struct that has ghost fields is lent only through a loan of its array
         let lines = &mut self.lines;
         lines[at].remove(place);
         Ok(())

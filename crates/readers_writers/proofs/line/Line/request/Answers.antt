@@ -1,14 +1,17 @@
-use Rattle.std.proofs.Common.{◌≡◌, ℕ, ◌<◌, false, true, List, length, slice_index_or, take, Some, sym, ap, ◌∙◌, zero-add, arith}
+use Rattle.std.proofs.Common.{◌≡◌, ℕ, ◌<◌, List, length, slice_index_or, take, Some, sym, ap, ◌∙◌, zero-add, arith}
 use Rattle.std.proofs.lemmas.Option.{slice_get_past}
 use Rattle.std.proofs.lemmas.Bool.{cond-true, cond-false, ltb-true, ltb-false}
 use Rattle.std.specs.List.{slice_get}
 use Rattle.bank.specs.declared.request.Request.{Request}
+use Rattle.bank.specs.declared.request.Standing.{Standing}
 use Rattle.readers_writers.specs.declared.entry.Entry.{Entry}
 use Rattle.readers_writers.specs.Lines.{some, count_of, is_holder, is_writer, holding_writer, turns, request_of, requests}
 use Rattle.readers_writers.specs.Of.{list_of}
 use Rattle.readers_writers.specs.PlacesLemmas.{request_at_lem, length_requests}
 use Rattle.readers_writers.proofs.Positions.{count_is}
 use Rattle.readers_writers.proofs.line.Line.request.Goals as goal
+use Rattle.readers_writers.proofs.line.Line.request.Goals.{then-e, else-e}
+use Rattle.bank.specs.declared.request.Standing.TheVariants.{Waits}
 
 pub returns-in_err-e : goal.returns-in_err-e
 returns-in_err-e c =
@@ -25,16 +28,6 @@ at_place es i e lt is =
     let h = count_of is_holder es in
     request_at_lem b h 0 es i e lt ∙ (ap (λ n. Some (request_of b h n (slice_index_or es i e))) (zero-add _) ∙ ap (λ x. Some (request_of b h (count_of is_writer (take i es)) x)) (sym is))
 
-pub returns-then-e : goal.returns-then-e
-returns-then-e c =
-    let es = list_of c.args.self.now in
-    let e = c.in_ok-e.field-0.now in
-    let n = ap length c.deref.ensures.0 in
-    let lt = ltb-true _ _ (sym c.in_ok-e.ensures.lookup.0) in
-    let is : e ≡ slice_index_or es c.args.at e = c.in_ok-e.ensures.lookup.1 ∙ ap (λ xs. slice_index_or xs c.args.at e) c.deref.ensures.0 in
-    ap (λ p. Some (record { party = p; mode = e.mode; holds = true; turns = 0; departures = 0 })) c.into.ensures
-    ∙ sym (at_place es c.args.at e (omega arith) is ∙ ap Some (cond-true e.holds _ _ c.if-e.true))
-
 pub returns : goal.returns
 returns c =
     let es = list_of c.args.self.now in
@@ -42,9 +35,15 @@ returns c =
     let n = ap length c.deref.ensures.0 in
     let lt = ltb-true _ _ (sym c.in_ok-e.ensures.lookup.0) in
     let is : e ≡ slice_index_or es c.args.at e = c.in_ok-e.ensures.lookup.1 ∙ ap (λ xs. slice_index_or xs c.args.at e) c.deref.ensures.0 in
-    let k = c.writers_before.ensures.many ∙ count_is is_writer (take c.args.at es) in
-    let h = c.holders.ensures ∙ count_is is_holder es in
-    let t : c.turns.result ≡ turns (some holding_writer es) (count_of is_writer (take c.args.at es)) e.mode = c.turns.ensures ∙ (ap (λ b. turns b c.writers_before.result e.mode) c.is_writing.ensures ∙ ap (λ n. turns (some holding_writer es) n e.mode) k) in
-    let r : Request = record { party = e.party; mode = e.mode; holds = false; turns = turns (some holding_writer es) (count_of is_writer (take c.args.at es)) e.mode; departures = count_of is_holder es } in
-    let made : record { party = c.into-2.result; mode = e.mode; holds = false; turns = c.turns.result; departures = c.holders.result } ≡ r = cc (c.into-2.ensures, t, h) in
-    ap Some made ∙ sym (at_place es c.args.at e (omega arith) is ∙ ap Some (cond-false e.holds _ _ c.if-e.false))
+    let writing = some holding_writer es in
+    let before = count_of is_writer (take c.args.at es) in
+    let made : Standing → Request = λ s. record { party = e.party; mode = e.mode; standing = s } in
+    let party : record { party = c.into.result; mode = e.mode; standing = c.if-e.standing } ≡ made c.if-e.standing = ap (λ p. record { party = p; mode = e.mode; standing = c.if-e.standing }) c.into.ensures in
+    let same : made c.if-e.standing ≡ request_of writing (count_of is_holder es) before e = elim c.if-e.branch [
+      | then-e w ↦ ap made w.standing-is ∙ sym (cond-true e.holds _ _ w.if-e.true)
+      | else-e w ↦
+          let t : w.turns.result ≡ turns writing before e.mode = w.turns.ensures ∙ (ap (λ b. turns b w.writers_before.result e.mode) w.is_writing.ensures ∙ ap (λ n. turns writing n e.mode) (w.writers_before.ensures.many ∙ count_is is_writer (take c.args.at es))) in
+          let h = w.holders.ensures ∙ count_is is_holder es in
+          ap made (w.standing-is ∙ (ap (λ n. Waits n w.holders.result) t ∙ ap (λ n. Waits (turns writing before e.mode) n) h)) ∙ sym (cond-false e.holds _ _ w.if-e.false)
+    ] in
+    ap Some (party ∙ same) ∙ sym (at_place es c.args.at e (omega arith) is)
