@@ -43,6 +43,7 @@ fn limits_of<B: Bank>(plan: &Plan, bank: &B) -> ByteVec<1040>
     ensures few { length result ≤ 1040 }
 {
     let mut text = ByteVec::new();
+    // by number, since a bank is asked for a resource by its number
     for resource in 0..bank.resources() {
         push_resource(&mut text, plan, bank, resource);
     }

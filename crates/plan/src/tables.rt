@@ -10,6 +10,7 @@ pub struct Tables {
     pub(crate) slots: ByteVec<16>,
     pub(crate) reader_writers: usize,
     pub(crate) tasks: ByteVec<64>,
+    // fixed memory: a place for each task and resource, and 0 where no length is declared, since none of 0 can be
     pub(crate) lengths: [u16; 1024],
     pub(crate) lengths_end: usize,
     ghost few_clusters: { length clusters ≤ 8 },

@@ -12,6 +12,7 @@ fn take_text(text: &[u8], into: &mut Plan) -> Result<(), Refused>
     let mut tables = Tables::new();
     let mut draft = Draft::new();
     let mut rest = text;
+    // no index: each turn takes a line off the text
     while !rest.is_empty() {
         let (line, more) = first_line(rest);
         match draft.add(&mut tables, line) {

@@ -80,6 +80,7 @@ fn lay_lengths(plan: &Plan, out: &mut [u8], at: usize) -> usize
     ensures { Lays out.old at (row_text (length_items (plan_contents plan.now))) result out.new }
 {
     let mut end = at;
+    // by place, since the plan tells a length by its task and resource
     for place in 0..1024usize {
         end = lay_length(plan, out, end, place);
     }

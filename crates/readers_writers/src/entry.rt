@@ -7,6 +7,7 @@ use bank::request::Mode;
 pub struct Entry {
     pub party: u8,
     pub mode: Mode,
+    // its state, beside a party and a mode that count in both
     pub holds: bool,
 }
 

@@ -6,6 +6,7 @@ use crate::line::Line;
 /// Reader-writer resources, with so many seats at each.
 #[derive(Drop)]
 pub struct ReadersWriters {
+    // fixed memory: a line for each of the most resources, of which `count` are in use
     pub(crate) lines: [Line; 16],
     pub(crate) count: u32,
     pub(crate) seats: u32,

@@ -9,7 +9,7 @@ pub enum Asked {
     Back,
 }
 
-/// A request that a finish issued: its task, and whether it holds.
+/// A request that a finish issued: its task, and whether it holds. Both are the answer; neither says whether the other counts.
 #[derive(Clone, Copy, Debug, PartialEq, Eq)]
 pub struct Issued {
     pub task: u32,

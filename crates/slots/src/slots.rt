@@ -5,6 +5,7 @@ use crate::line::Line;
 /// A bank of slot resources: k of each, and who is active there in order of entry. The first k of them hold.
 #[derive(Clone, Copy)]
 pub struct Slots {
+    // fixed memory: a line for each of the most resources, of which `count` are in use
     pub(crate) lines: [Line; 16],
     pub(crate) count: u32,
     pub(crate) seats: u32,

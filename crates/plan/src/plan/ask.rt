@@ -30,6 +30,7 @@ fn longest_length(tables: &Tables, resource: usize) -> u16
     ensures { result ≡ longest_at (contents_of tables.now) resource }
 {
     let mut longest: u16 = 0;
+    // by task number, since the place in the table is reckoned from it: a chain over parts of the table is no plainer
     for task in 0..tables.tasks.len() {
         longest = longest.max(tables.lengths[task * 16 + resource]);
     }
