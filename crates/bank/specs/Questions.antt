@@ -1,5 +1,5 @@
 -- The questions that a bank puts, in order; the first answered no decides.
-use Rattle.std.specs.Prelude.{◌≡◌, ℕ, Bool, true, not, List, [], ◌∷◌, length, Some, None, Ok, Err, Result, nat_lt}
+use Rattle.std.specs.Prelude.{◌≡◌, ℕ, ◌<◌, ◌≤◌, Bool, true, not, List, [], ◌∷◌, length, Some, None, Ok, Err, Result, nat_lt}
 use Rattle.text.specs.Questions.{Question, ask, first_no}
 use Rattle.bank.specs.Lists.{is_active, is_holder}
 use Rattle.bank.specs.declared.refusal.Refusal.{Refusal}
@@ -50,3 +50,8 @@ leave_questions t r p xs = ask 2 (nat_lt r t.resources) ∷ (ask 12 (nat_lt p 64
 abbrev pub Tells : {A : Type 0} → List Question → A → Result A Refusal → Type 0
 Tells questions value (Ok x) = (first_no questions ≡ None) × (x ≡ value)
 Tells questions value (Err why) = first_no questions ≡ Some (number why)
+
+-- the place of a resource among so many, or the refusal where there is none
+abbrev pub IsIndex : ℕ → ℕ → Result ℕ Refusal → Type 0
+IsIndex count r (Ok at) = (r < count) × (at ≡ r)
+IsIndex count r (Err why) = (count ≤ r) × (why ≡ NoResource)

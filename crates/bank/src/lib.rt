@@ -2,5 +2,6 @@
 #![tactic(auto)]
 
 pub mod meaning;
+pub mod place;
 pub mod refusal;
 pub mod request;

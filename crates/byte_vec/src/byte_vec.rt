@@ -57,6 +57,7 @@ impl<const N: usize> ByteVec<N> {
         &self.places[..self.len]
     }
 
+    // Apart from the public call, so that an edit there is refused by the contract and not at a proof.
     fn put(&mut self, byte: u8) -> Result<(), Full>
         ensures { Appends N self.old (byte ∷ []) result self.new }
     {
@@ -89,6 +90,7 @@ impl<const N: usize> ByteVec<N> {
         Ok(())
     }
 
+    // Apart from the public call, so that an edit there is refused by the contract and not at a proof.
     fn take_out(&mut self, place: usize) -> Option<u8>
         ensures { Removes self.old place result self.new }
     {

@@ -174,6 +174,7 @@ fn line(answered: Answered) -> ByteVec<64>
     line
 }
 
+// Apart from the public call, so that an edit there is refused by the contract and not at a proof.
 fn write_line(answered: Answered, out: &mut [u8], at: usize) -> Result<usize, Refusal>
     ensures writes { Writes out.old at (line_text (call_of answered)) result out.new }
     ensures few { length (line_text (call_of answered)) ≤ 10 * event_size (call_of answered) }

@@ -3,6 +3,7 @@ ghost use Rattle.item.specs.Lines.{read_field, is_newline, read_last};
 
 use text::number::read_number;
 
+// Apart from the public call, so that an edit there is refused by the contract and not at a proof.
 fn behind_comma(s: &[u8]) -> Option<(u32, &[u8])>
     ensures { read_field s.now ≡ elim result [ None ↦ None | Some p ↦ Some (p.0, p.1.now) ] }
 {

@@ -50,6 +50,7 @@ fn push(line: &mut ByteVec<40>, item: Item) -> Result<(), Full>
     }
 }
 
+// Apart from the public call, so that an edit there is refused by the contract and not at a proof.
 fn line(item: Item) -> ByteVec<40>
     ensures text { result ≡ item_text item }
     ensures few { length (item_text item) ≤ 35 }
@@ -61,6 +62,7 @@ fn line(item: Item) -> ByteVec<40>
     }
 }
 
+// Apart from the public call, so that an edit there is refused by the contract and not at a proof.
 fn write_line(item: Item, out: &mut [u8], at: usize) -> Result<usize, Refusal>
     ensures { Writes out.old at (item_text item) result out.new }
 {

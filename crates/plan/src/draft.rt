@@ -26,6 +26,7 @@ impl Drop for Draft {
 #[derive(Clone, Copy, Debug, PartialEq, Eq)]
 pub struct Refused {
     pub refusal: Refusal,
+    // 0 where the plan has no end: the number that is printed
     pub line: usize,
 }
 

@@ -1,7 +1,5 @@
 -- What a line says, and what every line keeps.
-use Rattle.std.specs.Prelude.{◌≡◌, ℕ, ◌<◌, ◌≤◌, true, List, [], length, Ok, Err, Result, slice_index_or}
-use Rattle.bank.specs.declared.refusal.Refusal.{Refusal}
-use Rattle.bank.specs.declared.refusal.Refusal.TheVariants.{NoResource}
+use Rattle.std.specs.Prelude.{◌≡◌, ℕ, ◌<◌, ◌≤◌, true, List, [], length, slice_index_or}
 use Rattle.readers_writers.specs.Kept.{good, named, settled}
 use Rattle.readers_writers.specs.declared.entry.Entry.{Entry}
 use Rattle.readers_writers.specs.declared.line.Line.{Line}
@@ -23,11 +21,6 @@ Keeping m l = (length (list_of l) ≤ m) × (named (list_of l) ≡ true) × (goo
 
 abbrev pub AllKeep : List Line → ℕ → ℕ → Type 0
 AllKeep lines count m = (r : ℕ) → r < count → Keeping m (slice_index_or lines r bare)
-
--- the place of a resource's line, if there are so many resources
-abbrev pub IsIndex : ℕ → ℕ → Result ℕ Refusal → Type 0
-IsIndex count r (Ok at) = (r < count) × (at ≡ r)
-IsIndex count r (Err why) = (count ≤ r) × (why ≡ NoResource)
 
 -- nothing waits where it could hold
 abbrev pub Settled : List Line → ℕ → Type 0

@@ -1,7 +1,5 @@
 -- What a bank of slot resources always keeps.
-use Rattle.std.specs.Prelude.{◌≡◌, ℕ, ◌<◌, ◌≤◌, List, length, Ok, Err, Result, slice_index, slice_index_or}
-use Rattle.bank.specs.declared.refusal.Refusal.{Refusal}
-use Rattle.bank.specs.declared.refusal.Refusal.TheVariants.{NoResource}
+use Rattle.std.specs.Prelude.{◌≡◌, ℕ, ◌<◌, ◌≤◌, List, length, slice_index, slice_index_or}
 use Rattle.slots.specs.Rows.{row, bare}
 use Rattle.slots.specs.declared.line.Line.{Line}
 
@@ -22,8 +20,3 @@ Sized lines n = (n ≤ 16) × ((r : ℕ) → r < n → 1 ≤ (slice_index_or lin
 
 abbrev pub Seated : ℕ → Type 0
 Seated seats = (1 ≤ seats) × (seats ≤ 64)
-
--- the place of a resource's line, if there are so many resources
-abbrev pub IsIndex : ℕ → ℕ → Result ℕ Refusal → Type 0
-IsIndex count r (Ok at) = (r < count) × (at ≡ r)
-IsIndex count r (Err why) = (count ≤ r) × (why ≡ NoResource)

@@ -7,6 +7,7 @@ ghost use Rattle.readers_writers.specs.ReadersWritersBankLemmas.{is_small, is_so
 
 use crate::lines::ReadersWriters;
 use bank::meaning::Bank;
+use bank::place::index;
 use bank::refusal::Refusal;
 use bank::request::{Mode, Request};
 
@@ -28,17 +29,17 @@ impl Bank for ReadersWriters {
     }
 
     fn slots(&self, resource: u32) -> Result<u32, Refusal> {
-        self.index(resource)?;
+        index(resource, self.count)?;
         Ok(1)
     }
 
     fn reads(&self, resource: u32) -> Result<bool, Refusal> {
-        self.index(resource)?;
+        index(resource, self.count)?;
         Ok(true)
     }
 
     fn turn_limit(&self, resource: u32, mode: Mode) -> Result<u32, Refusal> {
-        self.index(resource)?;
+        index(resource, self.count)?;
         match mode {
             Mode::Write => Ok(2 * self.seats - 2),
             Mode::Read => Ok((self.seats - 1).min(2)),
@@ -46,17 +47,17 @@ impl Bank for ReadersWriters {
     }
 
     fn count(&self, resource: u32) -> Result<u32, Refusal> {
-        let at = self.index(resource)?;
+        let at = index(resource, self.count)?;
         Ok(self.lines[at].active())
     }
 
     fn request_at(&self, resource: u32, place: u32) -> Result<Option<Request>, Refusal> {
-        let at = self.index(resource)?;
+        let at = index(resource, self.count)?;
         Ok(self.lines[at].request(place as usize))
     }
 
     fn request_of(&self, resource: u32, party: u32) -> Result<Option<Request>, Refusal> {
-        let at = self.index(resource)?;
+        let at = index(resource, self.count)?;
         if party >= 64 {
             return Err(Refusal::NoParty);
         }

@@ -2,24 +2,13 @@ ghost use Rattle.std.specs.Prelude.{◌≡◌};
 ghost use Rattle.bank.specs.Meaning.{Enters, Leaves, Keeps};
 ghost use Rattle.readers_writers.specs.Banks.{told_of, active_of};
 ghost use Rattle.readers_writers.specs.Exactly.{EntersExactly, LeavesExactly};
-ghost use Rattle.readers_writers.specs.Of.{IsIndex};
 
 use crate::lines::ReadersWriters;
+use bank::place::index;
 use bank::refusal::Refusal;
 use bank::request::Mode;
 
 impl ReadersWriters {
-    /// The place of a resource's line.
-    pub(crate) fn index(&self, resource: u32) -> Result<usize, Refusal>
-        ensures { IsIndex self.now.count resource result }
-    {
-        if resource < self.count {
-            Ok(resource as usize)
-        } else {
-            Err(Refusal::NoResource)
-        }
-    }
-
     /// What the bank's `enter` does.
     pub(crate) fn enter_line(
         &mut self,
@@ -32,7 +21,7 @@ impl ReadersWriters {
         ensures keeps { Keeps result self.old self.new }
         ensures exact { EntersExactly resource party mode result self.old.lines self.new.lines }
     {
-        let at = self.index(resource)?;
+        let at = index(resource, self.count)?;
         if party >= 64 {
             return Err(Refusal::NoParty);
         }
@@ -54,7 +43,7 @@ impl ReadersWriters {
         ensures keeps { Keeps result self.old self.new }
         ensures exact { LeavesExactly resource party result self.old.lines self.new.lines }
     {
-        let at = self.index(resource)?;
+        let at = index(resource, self.count)?;
         if party >= 64 {
             return Err(Refusal::NoParty);
         }

@@ -5,6 +5,7 @@ ghost use Rattle.slots.specs.Meaning.{is_small, is_sound};
 
 use crate::slots::Slots;
 use bank::meaning::Bank;
+use bank::place::index;
 use bank::refusal::Refusal;
 use bank::request::{Mode, Request};
 
@@ -26,17 +27,17 @@ impl Bank for Slots {
     }
 
     fn slots(&self, resource: u32) -> Result<u32, Refusal> {
-        let at = self.index(resource)?;
+        let at = index(resource, self.count)?;
         Ok(self.lines[at].holders())
     }
 
     fn reads(&self, resource: u32) -> Result<bool, Refusal> {
-        self.index(resource)?;
+        index(resource, self.count)?;
         Ok(false)
     }
 
     fn turn_limit(&self, resource: u32, mode: Mode) -> Result<u32, Refusal> {
-        let at = self.index(resource)?;
+        let at = index(resource, self.count)?;
         match mode {
             Mode::Write => {
                 let k = self.lines[at].holders();
@@ -47,17 +48,17 @@ impl Bank for Slots {
     }
 
     fn count(&self, resource: u32) -> Result<u32, Refusal> {
-        let at = self.index(resource)?;
+        let at = index(resource, self.count)?;
         Ok(self.lines[at].size())
     }
 
     fn request_at(&self, resource: u32, place: u32) -> Result<Option<Request>, Refusal> {
-        let at = self.index(resource)?;
+        let at = index(resource, self.count)?;
         Ok(self.lines[at].request_at(place as usize))
     }
 
     fn request_of(&self, resource: u32, party: u32) -> Result<Option<Request>, Refusal> {
-        let at = self.index(resource)?;
+        let at = index(resource, self.count)?;
         if party >= 64 {
             return Err(Refusal::NoParty);
         }

@@ -1,32 +1,21 @@
 ghost use Rattle.std.specs.Prelude.{◌≡◌};
 ghost use Rattle.text.specs.Questions.{first_no};
 ghost use Rattle.bank.specs.Questions.{enter_questions, leave_questions};
-ghost use Rattle.slots.specs.Limits.{IsIndex};
 ghost use Rattle.slots.specs.Of.{told_of, active_of, refused_by, EntersLast, LeavesPlace};
 
 use crate::slots::Slots;
+use bank::place::index;
 use bank::refusal::Refusal;
 use bank::request::Mode;
 
 impl Slots {
-    // The place of a resource's line.
-    pub(crate) fn index(&self, resource: u32) -> Result<usize, Refusal>
-        ensures { IsIndex self.now.count resource result }
-    {
-        if resource < self.count {
-            Ok(resource as usize)
-        } else {
-            Err(Refusal::NoResource)
-        }
-    }
-
     // Puts a party that may enter at the end; tells whether it holds.
     pub(crate) fn take_in(&mut self, resource: u32, party: u32, mode: Mode) -> Result<bool, Refusal>
         ensures told { told_of self.new ≡ told_of self.old }
         ensures asks { first_no (enter_questions (told_of self.old) resource party mode (active_of self.old resource)) ≡ refused_by result }
         ensures exact { EntersLast resource party result self.old self.new }
     {
-        let at = self.index(resource)?;
+        let at = index(resource, self.count)?;
         if mode == Mode::Read {
             return Err(Refusal::NoMode);
         }
@@ -52,7 +41,7 @@ impl Slots {
         ensures asks { first_no (leave_questions (told_of self.old) resource party (active_of self.old resource)) ≡ refused_by result }
         ensures exact { LeavesPlace resource party result self.old self.new }
     {
-        let at = self.index(resource)?;
+        let at = index(resource, self.count)?;
         if party >= 64 {
             return Err(Refusal::NoParty);
         }

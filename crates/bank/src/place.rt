@@ -1,0 +1,14 @@
+ghost use Rattle.bank.specs.Questions.{IsIndex};
+
+use crate::refusal::Refusal;
+
+/// The place of a resource among so many, if it exists.
+pub fn index(resource: u32, count: u32) -> Result<usize, Refusal>
+    ensures { IsIndex count resource result }
+{
+    if resource < count {
+        Ok(resource as usize)
+    } else {
+        Err(Refusal::NoResource)
+    }
+}
