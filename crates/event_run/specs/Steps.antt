@@ -1,5 +1,5 @@
 -- What one line does, and how much may be printed.
-use Rattle.std.specs.Prelude.{◌≡◌, ℕ, ◌+◌, ◌*◌, ◌≤◌, List, length, min, Some, None, Option}
+use Rattle.std.specs.Prelude.{◌≡◌, ℕ, ◌+◌, ◌*◌, ◌≤◌, List, length, min, true, Some, None, Option}
 use Rattle.controller.specs.Of.{setup_of, snapshot_of}
 use Rattle.controller.specs.declared.controller.Controller.{Controller}
 use Rattle.event.specs.Answers.{event_of, line_text, unreadable_text}
@@ -54,3 +54,12 @@ WaitsIn Over at = Unit {0}
 
 abbrev pub Waits : DryRun → ℕ → Type 0
 Waits d at = WaitsIn d.phase at
+
+-- the plan is read, and a line begins behind its text
+abbrev pub AtLineIn : Phase → Type 0
+AtLineIn (Plan text begins) = begins ≡ true
+AtLineIn (Events controller line) = ⊥
+AtLineIn Over = ⊥
+
+abbrev pub AtLine : DryRun → Type 0
+AtLine d = AtLineIn d.phase

@@ -3,10 +3,10 @@ ghost use Rattle.event.specs.Lines.{read_event};
 ghost use Rattle.limits.specs.Lines.{limits_text};
 ghost use Rattle.plan.specs.Of.{plan_contents};
 ghost use Rattle.event_run.specs.Fed.{run_in, setup, snapshot, Laid, Takes};
-ghost use Rattle.event_run.specs.Steps.{reserve_in, reserve, line_reserve, line_size, Waits};
+ghost use Rattle.event_run.specs.Steps.{reserve_in, reserve, line_reserve, line_size, AtLine, Waits};
 ghost use Rattle.event_run.specs.Made.{MadeFrom};
-ghost use Rattle.dry_run.specs.Said.{plan_told};
-ghost use Rattle.event_run.specs.declared.run.Phase.TheVariants.{Plan as InPlan, Events as InEvents};
+ghost use Rattle.dry_run.specs.Said.{plan_told, refused_text};
+ghost use Rattle.event_run.specs.declared.run.Phase.TheVariants.{Plan as InPlan, Events as InEvents, Over as IsOver};
 
 use crate::line::answer_line;
 use crate::refused::{lay_no_end, lay_refused};
@@ -34,8 +34,8 @@ fn accept(plan: &Plan, out: &mut [u8]) -> (Controller<Pair<Slots, ReadersWriters
     (Controller::new(plan, banks), end)
 }
 
-// An empty line ends the plan: what comes behind it, and the end of what is printed.
-fn close_plan(text: &[u8], out: &mut [u8]) -> (Phase, usize)
+// What comes behind a plan that an empty line ended, and the end of what is printed.
+fn behind_plan(text: &[u8], out: &mut [u8]) -> (Phase, usize)
     requires { 1040 ≤ length out.old }
     ensures takes { Takes (run_in (InPlan text.now true)) (run_in result.0) (10 ∷ []) out.old 0 result.1 out.new }
     ensures few { result.1 + reserve_in result.0 ≤ 1040 }
@@ -83,7 +83,34 @@ fn take_event_byte(
     answer_line(controller, event, out, at)
 }
 
+// A whole phase is made only in functions of their own: room for one in `take_byte` would be zeroed for each byte.
 impl DryRun {
+    // No empty line has come in time.
+    fn refuse(&mut self, out: &mut [u8]) -> usize
+        requires { 50 ≤ length out.old }
+        ensures laid { Laid out.old 0 (refused_text 22 0) result out.new }
+        ensures few { result ≤ 50 }
+        ensures over { self.new ≡ run_in IsOver }
+    {
+        self.phase = Phase::Over;
+        lay_no_end(out)
+    }
+
+    // An empty line ends the plan.
+    fn close_plan(&mut self, out: &mut [u8]) -> usize
+        requires { AtLine self.old × (1040 ≤ length out.old) }
+        ensures takes { Takes self.old self.new (10 ∷ []) out.old 0 result out.new }
+        ensures few { result + reserve self.new ≤ 1040 }
+        ensures waits { Waits self.new result }
+    {
+        let Phase::Plan { text, .. } = &self.phase else {
+            unreachable()
+        };
+        let (next, end) = behind_plan(text.as_slice(), out);
+        self.phase = next;
+        end
+    }
+
     // A byte of the input.
     pub(crate) fn take_byte(&mut self, b: u8, out: &mut [u8], at: usize) -> usize
         requires { Waits self.old at × (at + reserve self.old + 10 ≤ length out.old) }
@@ -94,19 +121,14 @@ impl DryRun {
         match &mut self.phase {
             Phase::Plan { text, begins } => {
                 if b == b'\n' && *begins {
-                    let (next, end) = close_plan(text.as_slice(), out);
-                    self.phase = next;
-                    return end;
+                    return self.close_plan(out);
                 }
                 match text.push(b) {
                     Ok(()) => {
                         *begins = b == b'\n';
                         0
                     }
-                    Err(Full) => {
-                        self.phase = Phase::Over;
-                        lay_no_end(out)
-                    }
+                    Err(Full) => self.refuse(out),
                 }
             }
             Phase::Events { controller, line } => take_event_byte(controller, line, b, out, at),

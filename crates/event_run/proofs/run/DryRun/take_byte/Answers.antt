@@ -24,11 +24,11 @@ returns-in-Err-clause-takes c =
     let p = c.in-Plan in
     let more : (eqb c.args.b 10 && p.begins) ≡ false = elim c.else-b-eq10.branch [ else-b-eq10-via-then-b-eq10+else-begins w ↦ no_empty_line c.args.b p.begins w.if-b-eq10.true w.if-begins.false | else-b-eq10-via-else-b-eq10 w ↦ ap (λ v. v && p.begins) (ne_eqb c.args.b 10 w.if-b-eq10.false) ] in
     let start : c.args.at ≡ 0 = subst (λ x. WaitsIn x c.args.at) p.is c.requires.0 in
-    record {
+    rw c.refuse.ensures.over (record {
       printed = refused_text 22 0;
-      laid = subst (λ at. Laid c.args.out.now at (refused_text 22 0) c.lay_no_end.result c.lay_no_end.new.out) (sym start) c.lay_no_end.ensures.laid;
+      laid = subst (λ at. Laid c.args.out.now at (refused_text 22 0) c.refuse.result c.refuse.new.out) (sym start) c.refuse.ensures.laid;
       law = λ i o fed. plan_full p.text p.begins i o (into c.args.self.now.phase (Plan p.text p.begins) p.is i o fed) c.args.b c.in-Err.ensures.0 more;
-    }
+    })
 
 pub returns-in-Over-clause-takes : goal.returns-in-Over-clause-takes
 returns-in-Over-clause-takes c = record {

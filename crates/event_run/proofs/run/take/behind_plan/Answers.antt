@@ -3,7 +3,7 @@ use Rattle.plan.specs.Of.{plan_contents}
 use Rattle.text.specs.Refusals.{number}
 use Rattle.dry_run.specs.Said.{plan_told, refused_text}
 use Rattle.event_run.proofs.Steps.{plan_accepted, plan_refused}
-use Rattle.event_run.proofs.run.take.close_plan.Goals as goal
+use Rattle.event_run.proofs.run.take.behind_plan.Goals as goal
 
 pub returns-in-Ok-clause-takes : goal.returns-in-Ok-clause-takes
 returns-in-Ok-clause-takes c =
