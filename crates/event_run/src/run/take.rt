@@ -83,7 +83,7 @@ fn take_event_byte(
     answer_line(controller, event, out, at)
 }
 
-// A whole phase is made only in functions of their own: room for one in `take_byte` would be zeroed for each byte.
+// A whole phase is made outside `take_byte`, where the room for one would be zeroed for each byte.
 impl DryRun {
     // No empty line has come in time.
     fn refuse(&mut self, out: &mut [u8]) -> usize
