@@ -2,6 +2,8 @@
 use Rattle.std.specs.Prelude.{◌≡◌, ℕ, ◌+◌, ◌*◌, ◌<◌, Bool, true, false, List, [], ◌∷◌, ◌++◌, length, take, Some, None, Ok, Err, Result, ◌==◌, nat_le}
 use Rattle.std.specs.List.{AllByRecursion}
 use Rattle.controller.specs.Of.{setup_of, snapshot_of}
+use Rattle.controller.specs.declared.controller.Controller.{Controller}
+use Rattle.dry_run.specs.Banks.{Banks}
 use Rattle.plan.specs.Contents.{Contents}
 use Rattle.plan_text.specs.Texts.{read_text}
 use Rattle.rules.specs.Jobs.{Setup, Snapshot}
@@ -17,31 +19,27 @@ use Rattle.event_run.specs.declared.run.DryRun.{DryRun}
 use Rattle.event_run.specs.declared.run.Phase.{Phase}
 use Rattle.event_run.specs.declared.run.Phase.TheVariants.{Plan, Events, Over}
 
--- the bytes that are kept: the plan so far, or the line so far
-abbrev pub kept : DryRun → List ℕ
-kept d = take d.size d.text
+abbrev pub setup : Controller Banks meaning → Setup
+setup controller = setup_of meaning controller
 
-abbrev pub setup : DryRun → Setup
-setup d = setup_of meaning d.controller
-
-abbrev pub snapshot : DryRun → Snapshot
-snapshot d = snapshot_of meaning d.controller
+abbrev pub snapshot : Controller Banks meaning → Snapshot
+snapshot controller = snapshot_of meaning controller
 
 -- whether a line begins behind these bytes
 abbrev pub line_begins : Bool → List ℕ → Bool
 line_begins begins [] = begins
 line_begins begins (b ∷ bs) = line_begins (b == 10) bs
 
--- the plan has not ended
-pub record Planning (d : DryRun) (input out : List ℕ) : Type 0 where
-  pub held : kept d ≡ input
+-- the plan has not ended: this text of it is kept, and a line begins behind it or not
+pub record Planning (text : List ℕ) (begun : Bool) (input out : List ℕ) : Type 0 where
+  pub held : text ≡ input
   pub few : length input < 16384
   pub unended : before_empty true input ≡ None
-  pub begins : d.begins ≡ line_begins true input
+  pub begins : begun ≡ line_begins true input
   pub nothing : out ≡ []
 
 -- the plan was accepted, and lines of events come behind it: the whole ones were answered, and the last one goes on
-pub record Replaying (d : DryRun) (input out : List ℕ) : Type 0 where
+pub record Replaying (controller : Controller Banks meaning) (kept input out : List ℕ) : Type 0 where
   pub text : List ℕ
   pub contents : Contents
   pub events : List ℕ
@@ -52,17 +50,21 @@ pub record Replaying (d : DryRun) (input out : List ℕ) : Type 0 where
   pub accepted : read_text text ≡ Ok contents
   pub cut : (more : List ℕ) → lines_of (events ++ more) ≡ lines ++ lines_of (line ++ more)
   pub plain : AllByRecursion (λ b. (b == 10) ≡ false) line
-  pub held : kept d ≡ take 16 line
-  pub plays : Plays contents (setup d) (snapshot d) lines out
+  pub held : kept ≡ take 16 line
+  pub plays : Plays contents (setup controller) (snapshot controller) lines out
 
-abbrev pub FedIn : Phase → DryRun → List ℕ → List ℕ → Type 0
-FedIn Plan d input out = Planning d input out
-FedIn Events d input out = Replaying d input out
-FedIn Over d input out = (more : List ℕ) → Printed (input ++ more) out
+abbrev pub FedIn : Phase → List ℕ → List ℕ → Type 0
+FedIn (Plan text begins) input out = Planning text begins input out
+FedIn (Events controller line) input out = Replaying controller line input out
+FedIn Over input out = (more : List ℕ) → Printed (input ++ more) out
 
 -- d stands after this input, and this was printed
 abbrev pub Fed : DryRun → List ℕ → List ℕ → Type 0
-Fed d input out = FedIn d.phase d input out
+Fed d input out = FedIn d.phase input out
+
+-- the dry run that is in a phase
+abbrev pub run_in : Phase → DryRun
+run_in phase = record { phase = phase }
 
 -- bytes stand at a place, the end is the place behind them, and nothing else changed
 abbrev pub Laid : List ℕ → ℕ → List ℕ → ℕ → List ℕ → Type 0

@@ -1,5 +1,5 @@
 -- What one line does, and how much may be printed.
-use Rattle.std.specs.Prelude.{◌≡◌, ℕ, ◌+◌, ◌*◌, ◌≤◌, List, length, Some, None, Option}
+use Rattle.std.specs.Prelude.{◌≡◌, ℕ, ◌+◌, ◌*◌, ◌≤◌, List, length, min, true, Some, None, Option}
 use Rattle.controller.specs.Of.{setup_of, snapshot_of}
 use Rattle.controller.specs.declared.controller.Controller.{Controller}
 use Rattle.event.specs.Answers.{event_of, line_text, unreadable_text}
@@ -33,11 +33,33 @@ pub record LineTaken (c c' : Controller Banks meaning) (event : Option Event) (o
   pub setup : setup_of meaning c' ≡ setup_of meaning c
   pub does : LineDone (setup_of meaning c) (snapshot_of meaning c) event printed (snapshot_of meaning c')
 
+-- how many bytes may still be printed of a line, which is kept up to 16 bytes
+abbrev pub line_reserve : List ℕ → ℕ
+line_reserve line = 10 * min (length line) 16
+
 -- how many bytes may still be printed of what is kept
-abbrev pub reserve_in : Phase → ℕ → ℕ
-reserve_in Plan size = 1040
-reserve_in Events size = 10 * size
-reserve_in Over size = 0
+abbrev pub reserve_in : Phase → ℕ
+reserve_in (Plan text begins) = 1040
+reserve_in (Events controller line) = line_reserve line
+reserve_in Over = 0
 
 abbrev pub reserve : DryRun → ℕ
-reserve d = reserve_in d.phase d.size
+reserve d = reserve_in d.phase
+
+-- while the plan is read, nothing has been printed
+abbrev pub WaitsIn : Phase → ℕ → Type 0
+WaitsIn (Plan text begins) at = at ≡ 0
+WaitsIn (Events controller line) at = Unit {0}
+WaitsIn Over at = Unit {0}
+
+abbrev pub Waits : DryRun → ℕ → Type 0
+Waits d at = WaitsIn d.phase at
+
+-- the plan is read, and a line begins behind its text
+abbrev pub AtLineIn : Phase → Type 0
+AtLineIn (Plan text begins) = begins ≡ true
+AtLineIn (Events controller line) = ⊥
+AtLineIn Over = ⊥
+
+abbrev pub AtLine : DryRun → Type 0
+AtLine d = AtLineIn d.phase

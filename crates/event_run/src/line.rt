@@ -38,16 +38,15 @@ fn call(controller: &mut Controller<Pair<Slots, ReadersWriters>>, event: Event) 
     }
 }
 
+// The memory and the place stay two parameters, as all writers below take them: a struct would borrow the memory anew.
+
 // Lays the line of an event with its answer.
 fn lay_answered(answered: Answered, out: &mut [u8], at: usize) -> usize
     requires { at + 10 * event_size (call_of answered) ≤ length out.old }
     ensures laid { Laid out.old at (line_text (call_of answered)) result out.new }
     ensures few { result ≤ at + 10 * event_size (call_of answered) }
 {
-    match answered.write(out, at) {
-        Ok(end) => end,
-        Err(_) => unreachable(),
-    }
+    answered.write(out, at).unwrap()
 }
 
 // Lays the line of what is no event.
@@ -55,10 +54,7 @@ pub(crate) fn lay_unreadable(out: &mut [u8], at: usize) -> usize
     requires { at + 8 ≤ length out.old }
     ensures { Laid out.old at unreadable_text result out.new }
 {
-    match write_bytes(out, at, b"?,no,21\n") {
-        Ok(end) => end,
-        Err(_) => unreachable(),
-    }
+    write_bytes(out, at, b"?,no,21\n").unwrap()
 }
 
 // Answers the event that a line is, if it is one, and lays what is printed of it.

@@ -2,9 +2,8 @@ ghost use Rattle.std.specs.Prelude.{◌+◌, ◌*◌, ◌≤◌, length, Ok, Err
 ghost use Rattle.event_run.specs.Fed.{Takes, Feeds, Ends, EndsIn};
 
 use crate::line::lay_unreadable;
-use crate::refused::lay_refused;
+use crate::refused::lay_no_end;
 use crate::run::{DryRun, Phase};
-use plan::draft::Refused;
 use text::refusal::Refusal;
 
 impl DryRun {
@@ -40,16 +39,10 @@ impl DryRun {
         ensures ends { Ends self.now out.old result out.new }
         ensures within { result ≤ 64 }
     {
-        match self.phase {
-            Phase::Plan => lay_refused(
-                out,
-                Refused {
-                    refusal: Refusal::NoEnd,
-                    line: 0,
-                },
-            ),
-            Phase::Events => {
-                if self.size == 0 {
+        match &self.phase {
+            Phase::Plan { .. } => lay_no_end(out),
+            Phase::Events { line, .. } => {
+                if line.len() == 0 {
                     return 0;
                 }
                 lay_unreadable(out, 0)

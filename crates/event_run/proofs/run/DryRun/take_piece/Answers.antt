@@ -1,11 +1,11 @@
-use Rattle.std.proofs.Common.{[], ◌∷◌, get_or, take, sym, refl, subst, arith}
+use Rattle.std.proofs.Common.{[], ◌∷◌, get_or, take, sym, subst, arith}
 use Rattle.std.proofs.lemmas.List.{take_more, take_all}
 use Rattle.event_run.specs.Fed.{Takes}
-use Rattle.event_run.proofs.Steps.{reserve_few, takes_none, takes_more}
+use Rattle.event_run.proofs.Steps.{reserve_few, waits_none, takes_none, takes_more}
 use Rattle.event_run.proofs.run.DryRun.take_piece.Goals as goal
 
 pub loop-b-init : goal.loop-b-init
-loop-b-init c = (takes_none c.args.self.now c.args.out.now, omega (arith, reserve_few c.args.self.now), λ e. refl)
+loop-b-init c = (takes_none c.args.self.now c.args.out.now, omega (arith, reserve_few c.args.self.now.phase), waits_none c.args.self.now.phase)
 
 pub take_byte-at-requires : goal.take_byte-at-requires
 take_byte-at-requires c = (c.loop-b.invariant.2, omega (arith, c.loop-b.invariant.1, c.loop-b.auto.out))
