@@ -1,5 +1,5 @@
 -- How long a refusal that names a task is.
-use Rattle.std.proofs.Common.{ℕ, ◌+◌, ◌^◌, ◌<◌, ◌≤◌, length, decimal, arith, length-append}
+use Rattle.std.proofs.Common.{ℕ, ◌^◌, ◌<◌, ◌≤◌, length, arith, length-append}
 use Rattle.std.proofs.lemmas.Fmt.{length-decimal-le}
 use Rattle.item.proofs.Sizes.{number_size}
 use Rattle.rules.specs.declared.refusal.Refusal.TheVariants.{Late}

@@ -1,6 +1,6 @@
 -- Lines laid one after another.
-use Rattle.std.proofs.Common.{◌≡◌, ℕ, ◌+◌, ◌*◌, ◌/◌, ◌%◌, ◌<◌, true, false, cond, eqb, List, [], ◌∷◌, ◌++◌, map, length, get_or, take, replicate, Some, None, sym, refl, ap, ◌∙◌, append-nil, zero-add, arith}
-use Rattle.std.proofs.lemmas.List.{take_more, map-append, replicate_more}
+use Rattle.std.proofs.Common.{◌≤◌, ◌≡◌, ℕ, ◌+◌, ◌*◌, ◌/◌, ◌%◌, ◌<◌, true, false, cond, eqb, List, [], ◌∷◌, ◌++◌, map, length, get_or, take, replicate, Some, None, sym, refl, ap, ◌∙◌, append-nil, zero-add, arith}
+use Rattle.std.proofs.lemmas.List.{take_more, take_all, map-append, replicate_more}
 use Rattle.item.specs.Lines.{item_text}
 use Rattle.item.specs.declared.item.Item.{Item}
 use Rattle.item.specs.declared.item.Item.TheVariants.{Cluster, Slots, ReaderWriter, Task, Length}
@@ -23,6 +23,10 @@ made_next make xs i item l e old at middle mid f end new g = rw (made_more) (lay
         ∙ (ap row_text (map-append make (take i xs) (get_or xs i 0 ∷ []))
         ∙ (joined_append item_text (map make (take i xs)) (make (get_or xs i 0) ∷ [])
         ∙ (ap (λ ys. row_text (map make (take i xs)) ++ ys) (append-nil (item_text (make (get_or xs i 0)))) ∙ ap (λ j. row_text (map make (take i xs)) ++ item_text j) (sym e))))
+
+-- a row of which every line is laid
+pub lays_all : (is : List Item) (i : ℕ) (old : List ℕ) (at end : ℕ) (new : List ℕ) → length is ≤ i → Lays old at (row_text (take i is)) end new → Lays old at (row_text is) end new
+lays_all is i old at end new l f = rw (take_all i is l) at f
 
 -- the same of reader-writer resources
 pub writers_next : (n : ℕ) (old : List ℕ) (at middle : ℕ) (mid : List ℕ) → Lays old at (row_text (replicate n ReaderWriter)) middle mid → (end : ℕ) (new : List ℕ) → Lays mid middle (item_text ReaderWriter) end new → Lays old at (row_text (replicate (n + 1) ReaderWriter)) end new
