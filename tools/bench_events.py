@@ -1,5 +1,5 @@
 #!/usr/bin/env python3
-"""Times stint_events on a plan and a million events, and tells its peak memory: bench_events.py [EVENTS].
+"""Times stint on a plan and a million events, and tells its peak memory: bench_events.py [EVENTS].
 
 The first run has 64 tasks that release, ask, give and finish in turn, with ticks between; the second has ticks alone; the third has
 lines that are no events.
@@ -10,8 +10,8 @@ import tempfile
 import time
 from pathlib import Path
 
-CRATE = Path(__file__).resolve().parent.parent / "crates" / "stint_events"
-STINT = CRATE / "out" / "stint_events"
+CRATE = Path(__file__).resolve().parent.parent / "crates" / "stint"
+STINT = CRATE / "out" / "stint"
 EVENTS = int(sys.argv[1]) if len(sys.argv) > 1 else 1_000_000
 TASKS = 64
 RUNS = 5

@@ -1,6 +1,6 @@
-pub mod Parts
-pub mod Pieces
+pub mod Bytes
+pub mod Fits
 pub mod Planned
 pub mod Printed
 pub mod SameTold
-pub mod Verdicts
+pub mod Steps

@@ -1,3 +1,6 @@
 pub mod Banks
-pub mod Inputs
+pub mod Fed
+pub mod Made
+pub mod Plays
 pub mod Said
+pub mod Steps

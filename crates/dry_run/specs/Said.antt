@@ -1,18 +1,14 @@
 -- What the program reads of its input, and what it prints.
-use Rattle.std.specs.Prelude.{◌≡◌, ℕ, Bool, true, false, cond, ◌||◌, List, [], ◌∷◌, ◌++◌, length, take, is_some, Some, None, Ok, Err, codes, decimal, Option, Result, ◌==◌, nat_le, slice_index}
+use Rattle.std.specs.Prelude.{ℕ, ◌+◌, Bool, true, cond, List, [], ◌∷◌, ◌++◌, length, take, drop, is_some, Some, None, Ok, Err, codes, decimal, Option, ◌==◌, slice_index, false}
 use Rattle.std.specs.Option.{unwrap_or, option_map}
 use Rattle.bank.specs.Questions.{Told}
 use Rattle.limits.specs.Lines.{limits_text}
 use Rattle.pair.specs.Pairs.{pair_told}
 use Rattle.plan.specs.Contents.{Contents, processors}
-use Rattle.plan.specs.Of.{plan_contents}
-use Rattle.plan.specs.declared.draft.Refused.{Refused}
-use Rattle.plan.specs.declared.plan.Plan.{Plan}
 use Rattle.plan_text.specs.Texts.{Verdict, decide, read_text}
 use Rattle.readers_writers.specs.Lines.{turn_limit as reader_writer_limit}
 use Rattle.slots.specs.Lines.{turn_limit as slot_limit}
 use Rattle.text.specs.Questions.{Question, ask, first_no}
-use Rattle.text.specs.Refusals.{number}
 
 -- the bytes before the first empty line, if there is one: a newline where a line begins
 abbrev pub before_empty : Bool → List ℕ → Option (List ℕ)
@@ -22,6 +18,10 @@ before_empty begins (b ∷ bs) = cond (b == 10) (cond begins (Some []) (option_m
 -- the plan's text in an input: an empty line ends it within the first 16,384 bytes
 abbrev pub plan_part : List ℕ → Option (List ℕ)
 plan_part input = before_empty true (take 16384 input)
+
+-- the bytes behind its empty line
+abbrev pub behind_plan : List ℕ → List ℕ
+behind_plan input = drop (length (unwrap_or (plan_part input) []) + 1) input
 
 -- is there such a plan? It is put before any line, as line 0
 abbrev pub part_questions : Option (List ℕ) → List Question
@@ -33,10 +33,6 @@ part_verdict part = decide (first_no (part_questions part)) 0 (read_text (unwrap
 
 abbrev pub verdict : List ℕ → Verdict
 verdict input = part_verdict (plan_part input)
-
--- the rest of the input can change nothing
-abbrev pub enough : List ℕ → Bool
-enough kept = is_some (plan_part kept) || nat_le 16384 (length kept)
 
 abbrev pub refused_text : ℕ → ℕ → List ℕ
 refused_text question line = codes "plan,no," ++ (decimal question ++ (44 ∷ (decimal line ++ (10 ∷ []))))
@@ -55,13 +51,3 @@ plan_told c = pair_told (slots_told c) (readers_writers_told c)
 abbrev pub said : Verdict → List ℕ
 said (Ok c) = limits_text (plan_told c) c
 said (Err p) = refused_text p.0 p.1
-
--- the place of a plan holds what the input says, or it is as it was and the answer is the refusal
-abbrev pub ReadsInput : List ℕ → Plan → Result (Unit {0}) Refused → Plan → Type 0
-ReadsInput input old (Ok done) new = verdict input ≡ Ok (plan_contents new)
-ReadsInput input old (Err why) new = (verdict input ≡ Err (number why.refusal, why.line)) × (new ≡ old)
-
--- an accepted plan is left in its place, and else the place is as it was
-abbrev pub LeavesPlan : Verdict → Plan → Plan → Type 0
-LeavesPlan (Ok c) old new = plan_contents new ≡ c
-LeavesPlan (Err p) old new = new ≡ old

@@ -1,8 +1,7 @@
-//! The dry run: a plan from an input that comes in pieces, and what is printed.
+//! The dry run: a plan and event lines from an input that comes in pieces, and what is printed of it.
 #![tactic(auto)]
 
-pub mod answer;
 pub mod banks;
-pub mod input;
-pub mod plan_limits;
+pub mod line;
 pub mod refused;
+pub mod run;

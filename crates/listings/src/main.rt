@@ -1,22 +1,28 @@
-//! Runs each listing that an argument names: NAME.in must give NAME.out, however the input is cut.
+//! Plays each listing that an argument names: data NAME.in must print NAME.out, however it is cut into pieces.
 #![tactic(auto)]
 
-use dry_run::input::Input;
-use plan::plan::Plan;
+use dry_run::run::DryRun;
+use std::alloc::{AllocError, Global};
 use std::{env, fs, io};
 
 // Whether an input in pieces of a size gives the bytes wanted.
-fn gives(input: &[u8], size: usize, wanted: &[u8]) -> bool {
-    let mut plan = Plan::new();
-    let mut held = Input::new();
+fn gives(heap: Global, input: &[u8], size: usize, wanted: &[u8]) -> Result<bool, AllocError> {
+    let mut run = DryRun::new();
+    let mut memory = vec![in heap; 0u8; size.saturating_mul(10).saturating_add(1040)]?;
+    let mut printed = Vec::new(heap);
     for piece in input.chunks(size.max(1)) {
-        held.feed(piece);
+        let out = memory.as_mut_slice();
+        match run.feed(piece, out) {
+            Ok(n) => printed.extend_from_slice(&out[0..n])?,
+            Err(_) => return Ok(false),
+        }
     }
-    let mut out = [0u8; 16384];
-    match held.answer(&mut plan, &mut out) {
-        Ok(end) => &out[0..end] == wanted,
-        Err(_) => false,
+    let out = memory.as_mut_slice();
+    match run.end(out) {
+        Ok(n) => printed.extend_from_slice(&out[0..n])?,
+        Err(_) => return Ok(false),
     }
+    Ok(printed.as_slice() == wanted)
 }
 
 // Whether a listing gives what it must, in pieces of 1 to 19 bytes and whole.
@@ -25,11 +31,11 @@ fn listing(rt: &HostRuntime, name: &str) -> io::Result<bool> {
     let input = fs::read(rt, format!(in heap; "{name}.in")?.as_str())?;
     let wanted = fs::read(rt, format!(in heap; "{name}.out")?.as_str())?;
     for size in 1..20usize {
-        if !gives(input.as_slice(), size, wanted.as_slice()) {
+        if !gives(heap, input.as_slice(), size, wanted.as_slice())? {
             return Ok(false);
         }
     }
-    Ok(gives(input.as_slice(), input.len(), wanted.as_slice()))
+    Ok(gives(heap, input.as_slice(), input.len(), wanted.as_slice())?)
 }
 
 fn main(rt: HostRuntime) -> io::Result<()> {

@@ -1,38 +1,52 @@
-//! Reads a plan up to its empty line from standard input, and prints what became of it.
+//! Reads a plan and event lines from standard input, and prints the answers.
 #![tactic(auto)]
 
-use dry_run::input::Input;
-use plan::plan::Plan;
+ghost use Rattle.std.specs.Prelude.{◌+◌, ◌*◌, ◌≤◌, length};
+
+use dry_run::run::DryRun;
 use std::io;
-use std::io::{ErrorKind, Read};
+use std::io::{ErrorKind, Read, Stdin};
+
+// Reads the next bytes and prints what becomes of them; tells whether the input goes on.
+fn turn(
+    rt: &HostRuntime,
+    input: &mut Stdin,
+    run: &mut DryRun,
+    chunk: &mut [u8],
+    out: &mut [u8],
+) -> io::Result<bool>
+    requires { 10 * length chunk.old + 1040 ≤ length out.old }
+{
+    let n = match input.read(chunk) {
+        Ok(n) => n,
+        Err(e) => {
+            if e.kind() == ErrorKind::Interrupted {
+                return Ok(true);
+            }
+            return Err(e);
+        }
+    };
+    match run.feed(&chunk[0..n], out) {
+        Ok(size) => rt.write_all(&out[0..size])?,
+        Err(_) => unreachable(),
+    }
+    Ok(n > 0)
+}
 
 fn main(rt: HostRuntime) -> io::Result<()> {
     let heap = rt.alloc();
-    let mut plan = Plan::new();
-    let mut input = Input::new();
-    let mut chunk = vec![in heap; 0u8; 16384]?;
-    let mut stdin = rt.stdin();
+    let mut chunk = vec![in heap; 0u8; 65536]?;
+    let mut printed = vec![in heap; 0u8; 656400]?;
+    let mut run = DryRun::new();
+    let mut input = rt.stdin();
+    let room = chunk.as_mut_slice();
+    let out = printed.as_mut_slice();
     for _ in 0..u64::MAX {
-        let room = chunk.as_mut_slice();
-        let n = match stdin.read(room) {
-            Ok(n) => n,
-            Err(e) => {
-                if e.kind() == ErrorKind::Interrupted {
-                    continue;
-                }
-                return Err(e);
-            }
-        };
-        if n == 0 {
-            break;
-        }
-        input.feed(&room[0..n]);
-        if input.done() {
+        if !turn(&rt, &mut input, &mut run, room, out)? {
             break;
         }
     }
-    let mut out = [0u8; 16384];
-    match input.answer(&mut plan, &mut out) {
+    match run.end(out) {
         Ok(size) => { rt.write_all(&out[0..size]) }
         Err(_) => unreachable(),
     }

@@ -1,0 +1,280 @@
+-- What each byte makes of a dry run.
+use Rattle.std.proofs.Common.{◌≡◌, ℕ, ◌+◌, ◌<◌, ◌≤◌, Bool, true, false, ◌&&◌, eqb, List, [], ◌∷◌, ◌++◌, length, take, drop, Some, None, Ok, Err, Result, Option, unwrap_or, sym, refl, ap, ◌∙◌, subst, append_assoc, append-nil, add-zero, arith, length-append}
+use Rattle.std.proofs.lemmas.List.{length_push, drop_at}
+use Rattle.byte_vec.specs.Bytes.{Appends}
+use Rattle.byte_vec.specs.declared.byte_vec.Full.{Full}
+use Rattle.controller.specs.declared.controller.Controller.{Controller}
+use Rattle.dry_run.specs.Banks.{Banks}
+use Rattle.event.specs.Answers.{unreadable_text}
+use Rattle.event.specs.Lines.{read_event}
+use Rattle.event.specs.declared.event.Event.{Event}
+use Rattle.limits.specs.Lines.{limits_text}
+use Rattle.plan.specs.Contents.{Contents}
+use Rattle.plan_text.specs.Texts.{Verdict, read_text}
+use Rattle.rules.specs.Answers.{made}
+use Rattle.rules.specs.Histories.{Moment, History}
+use Rattle.rules.specs.Jobs.{Setup, Snapshot}
+use Rattle.rules.specs.Runs.{Runs, moment}
+use Rattle.text.specs.Lines.{lines_of}
+use Rattle.text.specs.Memory.{overlay}
+use Rattle.text.proofs.Writes.{overlay_none, overlay_more}
+use Rattle.dry_run.specs.Fed.{setup, snapshot, Planning, Replaying, FedIn, Fed, Laid, Takes, Ends}
+use Rattle.dry_run.specs.Steps.{LineDone, reserve_in, WaitsIn}
+use Rattle.dry_run.specs.Made.{meaning, MadeFrom}
+use Rattle.dry_run.specs.Plays.{Replays, none, unreadable, answered, Plays, PrintedBy, Printed}
+use Rattle.dry_run.specs.Said.{before_empty, plan_part, part_verdict, verdict, refused_text, plan_told, behind_plan, said}
+use Rattle.dry_run.specs.declared.run.DryRun.{DryRun}
+use Rattle.dry_run.specs.declared.run.Phase.{Phase}
+use Rattle.dry_run.specs.declared.run.Phase.TheVariants.{Plan, Events, Over}
+use Rattle.dry_run.proofs.Bytes.{begins_push, found_not, part_found, part_none, part_short, Plain, plain_push, plain_line, plain_last, plain_unread, reads_front, front_grows, front_stays}
+
+pub into : (p q : Phase) → p ≡ q → (i o : List ℕ) → FedIn p i o → FedIn q i o
+into p q e i o fed = subst (λ x. FedIn x i o) e fed
+
+pub no_empty_line : (b : ℕ) (begun : Bool) → b ≡ 10 → begun ≡ false → (eqb b 10 && begun) ≡ false
+no_empty_line b begun e f = rw (e, f) refl
+
+pub laid_none : (old : List ℕ) (at : ℕ) → Laid old at [] at old
+laid_none old at = (sym (add-zero at), sym (overlay_none old at))
+
+-- THE PLAN
+
+module _ (text : List ℕ) (begun : Bool) (i o : List ℕ) (planning : Planning text begun i o) where
+  size_of : length i ≡ length text
+  size_of = ap length (sym planning.held)
+
+  unended_more : (b : ℕ) → (eqb b 10 && begun) ≡ false → before_empty true (i ++ (b ∷ [])) ≡ None
+  unended_more b more = found_not true i b planning.unended (ap (λ v. eqb b 10 && v) (sym planning.begins) ∙ more)
+
+  -- a byte more
+  pub plan_keeps : (b : ℕ) → length text + 1 ≤ 16383 → (eqb b 10 && begun) ≡ false → Planning (text ++ (b ∷ [])) (eqb b 10) (i ++ (b ∷ [])) (o ++ [])
+  plan_keeps b room more = record {
+    held = ap (λ xs. xs ++ (b ∷ [])) planning.held;
+    few = omega (arith, length_push i b, size_of);
+    unended = unended_more b more;
+    begins = sym (begins_push true i b);
+    nothing = append-nil o ∙ planning.nothing;
+  }
+
+  -- the line of a refusal is all that is printed, whatever follows
+  refused : (b question line : ℕ) → ((more : List ℕ) → verdict ((i ++ (b ∷ [])) ++ more) ≡ Err (question, line)) → FedIn Over (i ++ (b ∷ [])) (o ++ refused_text question line)
+  refused b question line e = λ more. subst (λ v. PrintedBy v ((i ++ (b ∷ [])) ++ more) (o ++ refused_text question line)) (sym (e more)) (ap (λ xs. xs ++ refused_text question line) planning.nothing)
+
+  -- no room for a byte more
+  pub plan_full : (b : ℕ) → 16383 < length text + 1 → (eqb b 10 && begun) ≡ false → FedIn Over (i ++ (b ∷ [])) (o ++ refused_text 22 0)
+  plan_full b full more =
+      refused b 22 0 (λ rest. part_none (i ++ (b ∷ [])) rest (omega (arith, length_push i b, size_of, planning.few)) (unended_more b more))
+
+-- the empty line
+module _ (text i o : List ℕ) (planning : Planning text true i o) where
+  found : (more : List ℕ) → plan_part (i ++ (10 ∷ more)) ≡ Some i
+  found more = part_found i more planning.few planning.unended (sym planning.begins)
+
+  pub plan_refused : (question line : ℕ) → read_text text ≡ Err (question, line) → FedIn Over (i ++ (10 ∷ [])) (o ++ refused_text question line)
+  plan_refused question line e =
+      refused text true i o planning 10 question line (λ more. ap verdict (append_assoc i (10 ∷ []) more) ∙ (ap part_verdict (found more) ∙ (ap read_text (sym planning.held) ∙ e)))
+
+  pub plan_accepted : (c : Contents) (controller : Controller Banks meaning) → read_text text ≡ Ok c → MadeFrom c (setup controller) (snapshot controller) → Replaying controller [] (i ++ (10 ∷ [])) (o ++ limits_text (plan_told c) c)
+  plan_accepted c controller e m = record {
+    text = i;
+    contents = c;
+    events = [];
+    lines = [];
+    line = [];
+    bytes = refl;
+    found = found;
+    accepted = ap read_text (sym planning.held) ∙ e;
+    cut = λ more. refl;
+    plain = tt;
+    held = refl;
+    plays = record {
+      begins = snapshot controller;
+      controller = m;
+      history = moment made (snapshot controller) ∷ [];
+      runs = m.starts.0;
+      lawful = m.starts.1;
+      answers = [];
+      replays = none;
+      printed = ap (λ xs. xs ++ limits_text (plan_told c) c) planning.nothing ∙ sym (append-nil (limits_text (plan_told c) c));
+    };
+  }
+
+-- THE EVENTS
+
+-- a run goes on by one line
+module _ (c : Contents) (a : Setup) (s t : Snapshot) (lines : List (List ℕ)) (o : List ℕ) (p : Plays c a s lines o) (line printed : List ℕ) where
+  longer : o ++ printed ≡ limits_text (plan_told c) c ++ (p.answers ++ printed)
+  longer = ap (λ xs. xs ++ printed) p.printed ∙ append_assoc (limits_text (plan_told c) c) p.answers printed
+
+  pub plays_more : (e : Option Event) → read_event line ≡ e → LineDone a s e printed t → Plays c a t (lines ++ (line ∷ [])) (o ++ printed)
+  plays_more None r (text, same) = record {
+    begins = p.begins;
+    controller = p.controller;
+    history = p.history;
+    runs = subst (λ x. Runs a x p.history) (sym same) p.runs;
+    lawful = p.lawful;
+    answers = p.answers ++ printed;
+    replays = subst (λ x. Replays (moment made p.begins) (lines ++ (line ∷ [])) p.history (p.answers ++ x)) (sym text) (unreadable line p.replays r);
+    printed = longer;
+  }
+  plays_more (Some e) r (call, of, text, follows) =
+      let on = follows p.history p.runs in
+      record {
+        begins = p.begins;
+        controller = p.controller;
+        history = moment call t ∷ p.history;
+        runs = on.0;
+        lawful = on.1;
+        answers = p.answers ++ printed;
+        replays = subst (λ x. Replays (moment made p.begins) (lines ++ (line ∷ [])) (moment call t ∷ p.history) (p.answers ++ x)) (sym text) (answered line e (moment call t) p.replays r of);
+        printed = longer;
+      }
+
+module _ (controller : Controller Banks meaning) (kept i o : List ℕ) (replaying : Replaying controller kept i o) where
+  bytes_more : (b : ℕ) → i ++ (b ∷ []) ≡ replaying.text ++ (10 ∷ (replaying.events ++ (b ∷ [])))
+  bytes_more b = ap (λ xs. xs ++ (b ∷ [])) replaying.bytes ∙ append_assoc replaying.text (10 ∷ replaying.events) (b ∷ [])
+
+  -- a byte of a line
+  event_keeps : (front : List ℕ) (b : ℕ) → eqb b 10 ≡ false → front ≡ take 16 (replaying.line ++ (b ∷ [])) → Replaying controller front (i ++ (b ∷ [])) (o ++ [])
+  event_keeps front b plain held = record {
+    text = replaying.text;
+    contents = replaying.contents;
+    events = replaying.events ++ (b ∷ []);
+    lines = replaying.lines;
+    line = replaying.line ++ (b ∷ []);
+    bytes = bytes_more b;
+    found = replaying.found;
+    accepted = replaying.accepted;
+    cut = λ more. ap lines_of (append_assoc replaying.events (b ∷ []) more) ∙ (replaying.cut (b ∷ more) ∙ ap (λ xs. replaying.lines ++ lines_of xs) (sym (append_assoc replaying.line (b ∷ []) more)));
+    plain = plain_push replaying.line b replaying.plain plain;
+    held = held;
+    plays = subst (λ x. Plays replaying.contents (setup controller) (snapshot controller) replaying.lines x) (sym (append-nil o)) replaying.plays;
+  }
+
+  -- the byte is kept, or the line is too long already
+  event_grows : (b : ℕ) → eqb b 10 ≡ false → length kept + 1 ≤ 16 → Replaying controller (kept ++ (b ∷ [])) (i ++ (b ∷ [])) (o ++ [])
+  event_grows b plain few =
+      event_keeps (kept ++ (b ∷ [])) b plain (ap (λ xs. xs ++ (b ∷ [])) replaying.held ∙ front_grows replaying.line b (omega (arith, ap length replaying.held)))
+
+  event_stays : (b : ℕ) → eqb b 10 ≡ false → 16 < length kept + 1 → Replaying controller kept (i ++ (b ∷ [])) (o ++ [])
+  event_stays b plain full =
+      event_keeps kept b plain (replaying.held ∙ front_stays replaying.line b (omega (arith, ap length replaying.held)))
+
+  pub event_pushed : (b : ℕ) (done : Result (Unit {0}) Full) (front : List ℕ) → eqb b 10 ≡ false → Appends 16 kept (b ∷ []) done front → Replaying controller front (i ++ (b ∷ [])) (o ++ [])
+  event_pushed b (Ok done) front plain (few, e) = subst (λ x. Replaying controller x (i ++ (b ∷ [])) (o ++ [])) (sym e) (event_grows b plain few)
+  event_pushed b (Err why) front plain (many, e) = subst (λ x. Replaying controller x (i ++ (b ∷ [])) (o ++ [])) (sym e) (event_stays b plain many)
+
+  -- a newline
+  pub event_line : (after : Controller Banks meaning) (printed : List ℕ) → setup after ≡ setup controller → LineDone (setup controller) (snapshot controller) (read_event (kept ++ (10 ∷ []))) printed (snapshot after) → Replaying after [] (i ++ (10 ∷ [])) (o ++ printed)
+  event_line after printed same does =
+      let line : List ℕ = replaying.line ++ (10 ∷ []) in
+      let read : read_event (kept ++ (10 ∷ [])) ≡ read_event line = ap (λ xs. read_event (xs ++ (10 ∷ []))) replaying.held ∙ reads_front replaying.line in
+      let on = plays_more replaying.contents (setup controller) (snapshot controller) (snapshot after) replaying.lines o replaying.plays line printed (read_event line) refl (subst (λ e. LineDone (setup controller) (snapshot controller) e printed (snapshot after)) read does) in
+      record {
+        text = replaying.text;
+        contents = replaying.contents;
+        events = replaying.events ++ (10 ∷ []);
+        lines = replaying.lines ++ (line ∷ []);
+        line = [];
+        bytes = bytes_more 10;
+        found = replaying.found;
+        accepted = replaying.accepted;
+        cut = λ more. ap lines_of (append_assoc replaying.events (10 ∷ []) more) ∙ (replaying.cut (10 ∷ more) ∙ (ap (λ xs. replaying.lines ++ xs) (plain_line replaying.line more replaying.plain) ∙ sym (append_assoc replaying.lines (line ∷ []) (lines_of more))));
+        plain = tt;
+        held = refl;
+        plays = subst (λ x. Plays replaying.contents x (snapshot after) (replaying.lines ++ (line ∷ [])) (o ++ printed)) (sym same) on;
+      }
+
+-- BEHIND A REFUSED PLAN
+
+pub over_stays : (i o : List ℕ) (b : ℕ) → FedIn Over i o → FedIn Over (i ++ (b ∷ [])) (o ++ [])
+over_stays i o b fed =
+    λ more. subst (λ x. Printed x (o ++ [])) (sym (append_assoc i (b ∷ []) more)) (subst (λ x. Printed (i ++ (b ∷ more)) x) (sym (append-nil o)) (fed (b ∷ more)))
+
+-- PIECES
+
+-- what is kept is short
+pub reserve_few : (p : Phase) → reserve_in p ≤ 1040
+reserve_few (Plan text begins) = omega arith
+reserve_few (Events controller line) = omega arith
+reserve_few Over = omega arith
+
+pub waits_none : (p : Phase) → WaitsIn p 0
+waits_none (Plan text begins) = refl
+waits_none (Events controller line) = tt
+waits_none Over = tt
+
+pub takes_none : (d : DryRun) (old : List ℕ) → Takes d d [] old 0 0 old
+takes_none d old = record {
+  printed = [];
+  laid = laid_none old 0;
+  law = λ i o fed. subst (λ x. Fed d x (o ++ [])) (sym (append-nil i)) (subst (Fed d i) (sym (append-nil o)) fed);
+}
+
+pub takes_more : (d e f : DryRun) (p q old : List ℕ) (middle : ℕ) (mid : List ℕ) (end : ℕ) (new : List ℕ) → middle ≤ length old → Takes d e p old 0 middle mid → Takes e f q mid middle end new → Takes d f (p ++ q) old 0 end new
+takes_more d e f p q old middle mid end new room x y =
+    let size = length-append x.printed y.printed in
+    let here : middle ≡ 0 + length x.printed = x.laid.0 in
+    record {
+      printed = x.printed ++ y.printed;
+      laid = (omega (arith, x.laid.0, y.laid.0), y.laid.1 ∙ (ap (λ m. overlay m middle y.printed) x.laid.1 ∙ (ap (λ k. overlay (overlay old 0 x.printed) k y.printed) here ∙ overlay_more old 0 x.printed y.printed (omega arith))));
+      law = λ i o fed. subst (λ z. Fed f z (o ++ (x.printed ++ y.printed))) (append_assoc i p q) (subst (Fed f ((i ++ p) ++ q)) (append_assoc o x.printed y.printed) (y.law (i ++ p) (o ++ x.printed) (x.law i o fed)));
+    }
+
+-- THE END
+
+no_lines : (first : Moment) (lines : List (List ℕ)) (h : History) (out : List ℕ) → Replays first lines h out → lines ≡ [] → out ≡ []
+no_lines first _ _ _ none e = refl
+no_lines first _ _ _ (unreadable {lines} line r u) e = absurd (omega (arith, length_push lines line, ap length e))
+no_lines first _ _ _ (answered {lines} line event m r u of) e = absurd (omega (arith, length_push lines line, ap length e))
+
+-- with nothing behind the plan
+alone_by : (v : Verdict) (input out : List ℕ) → PrintedBy v input out → behind_plan input ≡ [] → out ≡ said v
+alone_by (Ok c) input out (a, s, p) b =
+    p.printed ∙ (ap (λ xs. limits_text (plan_told c) c ++ xs) (no_lines _ _ _ _ p.replays (ap lines_of b)) ∙ append-nil (limits_text (plan_told c) c))
+alone_by (Err why) input out e b = e
+
+pub ends_with : (d : DryRun) (old printed : List ℕ) (n : ℕ) (new : List ℕ) → Laid old 0 printed n new → ((i o : List ℕ) → Fed d i o → Printed i (o ++ printed)) → Ends d old n new
+ends_with d old printed n new laid law =
+    record { printed = printed; laid = laid; law = law; alone = λ i o fed b. alone_by (verdict i) i (o ++ printed) (law i o fed) b }
+
+pub end_plan : (text : List ℕ) (begun : Bool) (i o : List ℕ) → Planning text begun i o → Printed i (o ++ refused_text 22 0)
+end_plan text begun i o p =
+    subst (λ v. PrintedBy v i (o ++ refused_text 22 0)) (sym (part_short i p.few p.unended)) (ap (λ xs. xs ++ refused_text 22 0) p.nothing)
+
+module _ (controller : Controller Banks meaning) (kept i o : List ℕ) (r : Replaying controller kept i o) where
+  part : plan_part i ≡ Some r.text
+  part = ap plan_part r.bytes ∙ r.found r.events
+
+  behind : behind_plan i ≡ r.events
+  behind =
+      ap (λ x. drop (length (unwrap_or x []) + 1) i) part
+      ∙ (ap (drop (length r.text + 1)) (r.bytes ∙ sym (append_assoc r.text (10 ∷ []) r.events)) ∙ drop_at (r.text ++ (10 ∷ [])) r.events (length r.text + 1) (length_push r.text 10))
+
+  lines_all : lines_of (behind_plan i) ≡ r.lines ++ lines_of r.line
+  lines_all = ap lines_of (behind ∙ sym (append-nil r.events)) ∙ (r.cut [] ∙ ap (λ xs. r.lines ++ lines_of xs) (append-nil r.line))
+
+  printed_with : (ls : List (List ℕ)) (out : List ℕ) → lines_of (behind_plan i) ≡ ls → Plays r.contents (setup controller) (snapshot controller) ls out → Printed i out
+  printed_with ls out e p = subst (λ v. PrintedBy v i out) (sym (ap part_verdict part ∙ r.accepted)) (setup controller, snapshot controller, subst (λ x. Plays r.contents (setup controller) (snapshot controller) x out) (sym e) p)
+
+  -- no line goes on
+  pub end_whole : length kept ≡ 0 → Printed i (o ++ [])
+  end_whole empty = from r.line refl
+    where
+      from : (line : List ℕ) → r.line ≡ line → Printed i (o ++ [])
+      from [] e = printed_with r.lines (o ++ []) (lines_all ∙ (ap (λ xs. r.lines ++ lines_of xs) e ∙ append-nil r.lines)) (subst (λ x. Plays r.contents (setup controller) (snapshot controller) r.lines x) (sym (append-nil o)) r.plays)
+      from (b ∷ bs) e = absurd (omega (arith, ap length (r.held ∙ ap (take 16) e)))
+
+  -- a last line has no newline
+  pub end_line : 0 < length kept → Printed i (o ++ unreadable_text)
+  end_line some = from r.line refl
+    where
+      from : (line : List ℕ) → r.line ≡ line → Printed i (o ++ unreadable_text)
+      from [] e = absurd (omega (arith, ap length (r.held ∙ ap (take 16) e)))
+      from (b ∷ bs) e =
+          let plain : Plain (b ∷ bs) = subst Plain e r.plain in
+          printed_with (r.lines ++ ((b ∷ bs) ∷ [])) (o ++ unreadable_text) (lines_all ∙ (ap (λ xs. r.lines ++ lines_of xs) e ∙ ap (λ xs. r.lines ++ xs) (plain_last b bs plain)))
+          (plays_more r.contents (setup controller) (snapshot controller) (snapshot controller) r.lines o r.plays (b ∷ bs) unreadable_text None (plain_unread (b ∷ bs) plain) (refl, refl))
+
+pub end_over : (i o : List ℕ) → FedIn Over i o → Printed i (o ++ [])
+end_over i o fed = subst (λ x. Printed x (o ++ [])) (append-nil i) (subst (Printed (i ++ [])) (sym (append-nil o)) (fed []))

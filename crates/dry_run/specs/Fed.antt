@@ -1,0 +1,100 @@
+-- A dry run in the middle of its input.
+use Rattle.std.specs.Prelude.{◌≡◌, ℕ, ◌+◌, ◌*◌, ◌<◌, Bool, true, false, List, [], ◌∷◌, ◌++◌, length, take, Some, None, Ok, Err, Result, ◌==◌, nat_le}
+use Rattle.std.specs.List.{AllByRecursion}
+use Rattle.controller.specs.Of.{setup_of, snapshot_of}
+use Rattle.controller.specs.declared.controller.Controller.{Controller}
+use Rattle.dry_run.specs.Banks.{Banks}
+use Rattle.plan.specs.Contents.{Contents}
+use Rattle.plan_text.specs.Texts.{read_text}
+use Rattle.rules.specs.Jobs.{Setup, Snapshot}
+use Rattle.text.specs.Lines.{lines_of}
+use Rattle.text.specs.Memory.{overlay}
+use Rattle.text.specs.Questions.{Question, ask, first_no}
+use Rattle.text.specs.Refusals.{number}
+use Rattle.text.specs.declared.refusal.Refusal.{Refusal}
+use Rattle.dry_run.specs.Made.{meaning}
+use Rattle.dry_run.specs.Plays.{Plays, Printed}
+use Rattle.dry_run.specs.Said.{before_empty, behind_plan, plan_part, said, verdict}
+use Rattle.dry_run.specs.declared.run.DryRun.{DryRun}
+use Rattle.dry_run.specs.declared.run.Phase.{Phase}
+use Rattle.dry_run.specs.declared.run.Phase.TheVariants.{Plan, Events, Over}
+
+abbrev pub setup : Controller Banks meaning → Setup
+setup controller = setup_of meaning controller
+
+abbrev pub snapshot : Controller Banks meaning → Snapshot
+snapshot controller = snapshot_of meaning controller
+
+-- whether a line begins behind these bytes
+abbrev pub line_begins : Bool → List ℕ → Bool
+line_begins begins [] = begins
+line_begins begins (b ∷ bs) = line_begins (b == 10) bs
+
+-- the plan has not ended: this text of it is kept, and a line begins behind it or not
+pub record Planning (text : List ℕ) (begun : Bool) (input out : List ℕ) : Type 0 where
+  pub held : text ≡ input
+  pub few : length input < 16384
+  pub unended : before_empty true input ≡ None
+  pub begins : begun ≡ line_begins true input
+  pub nothing : out ≡ []
+
+-- the plan was accepted, and lines of events come behind it: the whole ones were answered, and the last one goes on
+pub record Replaying (controller : Controller Banks meaning) (kept input out : List ℕ) : Type 0 where
+  pub text : List ℕ
+  pub contents : Contents
+  pub events : List ℕ
+  pub lines : List (List ℕ)
+  pub line : List ℕ
+  pub bytes : input ≡ text ++ (10 ∷ events)
+  pub found : (more : List ℕ) → plan_part (text ++ (10 ∷ more)) ≡ Some text
+  pub accepted : read_text text ≡ Ok contents
+  pub cut : (more : List ℕ) → lines_of (events ++ more) ≡ lines ++ lines_of (line ++ more)
+  pub plain : AllByRecursion (λ b. (b == 10) ≡ false) line
+  pub held : kept ≡ take 16 line
+  pub plays : Plays contents (setup controller) (snapshot controller) lines out
+
+abbrev pub FedIn : Phase → List ℕ → List ℕ → Type 0
+FedIn (Plan text begins) input out = Planning text begins input out
+FedIn (Events controller line) input out = Replaying controller line input out
+FedIn Over input out = (more : List ℕ) → Printed (input ++ more) out
+
+-- d stands after this input, and this was printed
+abbrev pub Fed : DryRun → List ℕ → List ℕ → Type 0
+Fed d input out = FedIn d.phase input out
+
+-- the dry run that is in a phase
+abbrev pub run_in : Phase → DryRun
+run_in phase = record { phase = phase }
+
+-- bytes stand at a place, the end is the place behind them, and nothing else changed
+abbrev pub Laid : List ℕ → ℕ → List ℕ → ℕ → List ℕ → Type 0
+Laid old at bytes end new = (end ≡ at + length bytes) × (new ≡ overlay old at bytes)
+
+-- a piece of input was taken, and what is printed of it stands at a place
+pub record Takes (d d' : DryRun) (piece old : List ℕ) (at end : ℕ) (new : List ℕ) : Type 0 where
+  pub printed : List ℕ
+  pub laid : Laid old at printed end new
+  pub law : (input out : List ℕ) → Fed d input out → Fed d' (input ++ piece) (out ++ printed)
+
+-- is there room for all that a piece may print?
+abbrev pub room_questions : List ℕ → List ℕ → List Question
+room_questions piece old = ask 23 (nat_le (10 * length piece + 1040) (length old)) ∷ []
+
+abbrev pub Feeds : DryRun → List ℕ → List ℕ → Result ℕ Refusal → DryRun → List ℕ → Type 0
+Feeds d piece old (Ok n) d' new = (first_no (room_questions piece old) ≡ None) × Takes d d' piece old 0 n new
+Feeds d piece old (Err why) d' new = (first_no (room_questions piece old) ≡ Some (number why)) × (d' ≡ d) × (new ≡ old)
+
+-- the input is over. With nothing behind its plan, what the plan says is all that was printed
+pub record Ends (d : DryRun) (old : List ℕ) (n : ℕ) (new : List ℕ) : Type 0 where
+  pub printed : List ℕ
+  pub laid : Laid old 0 printed n new
+  pub law : (input out : List ℕ) → Fed d input out → Printed input (out ++ printed)
+  pub alone : (input out : List ℕ) → Fed d input out → behind_plan input ≡ [] → out ++ printed ≡ said (verdict input)
+
+-- 64 bytes are enough at the end
+abbrev pub end_questions : List ℕ → List Question
+end_questions old = ask 23 (nat_le 64 (length old)) ∷ []
+
+abbrev pub EndsIn : DryRun → List ℕ → Result ℕ Refusal → List ℕ → Type 0
+EndsIn d old (Ok n) new = (first_no (end_questions old) ≡ None) × Ends d old n new
+EndsIn d old (Err why) new = (first_no (end_questions old) ≡ Some (number why)) × (new ≡ old)

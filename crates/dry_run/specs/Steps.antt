@@ -1,0 +1,65 @@
+-- What one line does, and how much may be printed.
+use Rattle.std.specs.Prelude.{◌≡◌, ℕ, ◌+◌, ◌*◌, ◌≤◌, List, length, min, true, Some, None, Option}
+use Rattle.controller.specs.Of.{setup_of, snapshot_of}
+use Rattle.controller.specs.declared.controller.Controller.{Controller}
+use Rattle.event.specs.Answers.{event_of, line_text, unreadable_text}
+use Rattle.event.specs.Lines.{event_text}
+use Rattle.event.specs.declared.event.Event.{Event}
+use Rattle.rules.specs.Answers.{Event as Call}
+use Rattle.rules.specs.Jobs.{Setup, Snapshot}
+use Rattle.rules.specs.Runs.{Follows}
+use Rattle.dry_run.specs.Fed.{Laid}
+use Rattle.dry_run.specs.Banks.{Banks}
+use Rattle.dry_run.specs.Made.{meaning}
+use Rattle.dry_run.specs.declared.run.DryRun.{DryRun}
+use Rattle.dry_run.specs.declared.run.Phase.{Phase}
+use Rattle.dry_run.specs.declared.run.Phase.TheVariants.{Plan, Events, Over}
+
+-- a line that is an event is a call, with its answer printed; another is printed as unreadable, and nothing changes
+abbrev pub LineDone : Setup → Snapshot → Option Event → List ℕ → Snapshot → Type 0
+LineDone a s None printed t = (printed ≡ unreadable_text) × (t ≡ s)
+LineDone a s (Some e) printed t = (c : Call) × (event_of c ≡ Some e) × (printed ≡ line_text c) × Follows a s c t
+
+-- the size of an event's line, and of the shortest that is none
+abbrev pub line_size : Option Event → ℕ
+line_size None = 1
+line_size (Some e) = length (event_text e)
+
+-- a line was answered, and what is printed of it stands at a place, at most ten bytes for each of the line
+pub record LineTaken (c c' : Controller Banks meaning) (event : Option Event) (old : List ℕ) (at end : ℕ) (new : List ℕ) : Type 0 where
+  pub printed : List ℕ
+  pub laid : Laid old at printed end new
+  pub few : end ≤ at + 10 * line_size event
+  pub setup : setup_of meaning c' ≡ setup_of meaning c
+  pub does : LineDone (setup_of meaning c) (snapshot_of meaning c) event printed (snapshot_of meaning c')
+
+-- how many bytes may still be printed of a line, which is kept up to 16 bytes
+abbrev pub line_reserve : List ℕ → ℕ
+line_reserve line = 10 * min (length line) 16
+
+-- how many bytes may still be printed of what is kept
+abbrev pub reserve_in : Phase → ℕ
+reserve_in (Plan text begins) = 1040
+reserve_in (Events controller line) = line_reserve line
+reserve_in Over = 0
+
+abbrev pub reserve : DryRun → ℕ
+reserve d = reserve_in d.phase
+
+-- while the plan is read, nothing has been printed
+abbrev pub WaitsIn : Phase → ℕ → Type 0
+WaitsIn (Plan text begins) at = at ≡ 0
+WaitsIn (Events controller line) at = Unit {0}
+WaitsIn Over at = Unit {0}
+
+abbrev pub Waits : DryRun → ℕ → Type 0
+Waits d at = WaitsIn d.phase at
+
+-- the plan is read, and a line begins behind its text
+abbrev pub AtLineIn : Phase → Type 0
+AtLineIn (Plan text begins) = begins ≡ true
+AtLineIn (Events controller line) = ⊥
+AtLineIn Over = ⊥
+
+abbrev pub AtLine : DryRun → Type 0
+AtLine d = AtLineIn d.phase

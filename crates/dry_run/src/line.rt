@@ -1,0 +1,74 @@
+ghost use Rattle.std.specs.Prelude.{◌≡◌, ◌+◌, ◌*◌, ◌≤◌, length, Some};
+ghost use Rattle.controller.specs.Of.{setup_of, snapshot_of};
+ghost use Rattle.event.specs.Answers.{call_of, event_of, line_text, event_size, unreadable_text};
+ghost use Rattle.rules.specs.Runs.{Follows};
+ghost use Rattle.dry_run.specs.Fed.{Laid};
+ghost use Rattle.dry_run.specs.Steps.{line_size, LineTaken};
+ghost use Rattle.dry_run.specs.Made.{meaning};
+
+use controller::controller::Controller;
+use event::answered::Answered;
+use event::event::Event;
+use pair::pair::Pair;
+use readers_writers::lines::ReadersWriters;
+use slots::slots::Slots;
+use text::memory::write_bytes;
+
+// Puts an event to the controller.
+fn call(controller: &mut Controller<Pair<Slots, ReadersWriters>>, event: Event) -> Answered
+    ensures event { event_of (call_of result) ≡ Some event }
+    ensures setup { setup_of meaning controller.new ≡ setup_of meaning controller.old }
+    ensures follows { Follows (setup_of meaning controller.old) (snapshot_of meaning controller.old) (call_of result) (snapshot_of meaning controller.new) }
+{
+    match event {
+        Event::Release(task) => Answered::Release(task, controller.release(task)),
+        Event::Ask {
+            task,
+            resource,
+            mode,
+        } => Answered::Ask {
+            task,
+            resource,
+            mode,
+            answer: controller.ask(task, resource, mode),
+        },
+        Event::Give(task) => Answered::Give(task, controller.give(task)),
+        Event::Finish(task) => Answered::Finish(task, controller.finish(task)),
+        Event::Tick => Answered::Tick(controller.tick()),
+    }
+}
+
+// The memory and the place stay two parameters, as all writers below take them: a struct would borrow the memory anew.
+
+// Lays the line of an event with its answer.
+fn lay_answered(answered: Answered, out: &mut [u8], at: usize) -> usize
+    requires { at + 10 * event_size (call_of answered) ≤ length out.old }
+    ensures laid { Laid out.old at (line_text (call_of answered)) result out.new }
+    ensures few { result ≤ at + 10 * event_size (call_of answered) }
+{
+    answered.write(out, at).unwrap()
+}
+
+// Lays the line of what is no event.
+pub(crate) fn lay_unreadable(out: &mut [u8], at: usize) -> usize
+    requires { at + 8 ≤ length out.old }
+    ensures { Laid out.old at unreadable_text result out.new }
+{
+    write_bytes(out, at, b"?,no,21\n").unwrap()
+}
+
+// Answers the event that a line is, if it is one, and lays what is printed of it.
+pub(crate) fn answer_line(
+    controller: &mut Controller<Pair<Slots, ReadersWriters>>,
+    event: Option<Event>,
+    out: &mut [u8],
+    at: usize,
+) -> usize
+    requires { at + 10 * line_size event ≤ length out.old }
+    ensures { LineTaken controller.old controller.new event out.old at result out.new }
+{
+    match event {
+        Some(event) => lay_answered(call(controller, event), out, at),
+        None => lay_unreadable(out, at),
+    }
+}

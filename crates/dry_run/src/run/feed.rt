@@ -1,0 +1,64 @@
+ghost use Rattle.std.specs.Prelude.{◌+◌, ◌*◌, ◌≤◌, length, Ok, Err};
+ghost use Rattle.dry_run.specs.Fed.{Takes, Feeds, Ends, EndsIn};
+
+use crate::line::lay_unreadable;
+use crate::refused::lay_no_end;
+use crate::run::{DryRun, Phase};
+use text::refusal::Refusal;
+
+impl DryRun {
+    // Takes a piece where there is room for what is printed of it.
+    fn take_piece(&mut self, piece: &[u8], out: &mut [u8]) -> usize
+        requires { 10 * length piece.now + 1040 ≤ length out.old }
+        ensures takes { Takes self.old self.new piece.now out.old 0 result out.new }
+        ensures within { result ≤ length out.old }
+    {
+        let mut at = 0;
+        for b in piece {
+            at = self.take_byte(*b, out, at);
+        }
+        at
+    }
+
+    /// Takes the next bytes of the input, however it is cut into pieces, writes what is printed of them at the start
+    /// of memory, and answers its size. Ten bytes for each of the piece, and 1,040 more, are always enough, and with
+    /// less nothing is taken.
+    pub fn feed(&mut self, piece: &[u8], out: &mut [u8]) -> Result<usize, Refusal>
+        ensures feeds { Feeds self.old piece.now out.old result self.new out.new }
+        ensures within { elim result [ Ok n ↦ n ≤ length out.old | Err why ↦ Unit {0} ] }
+    {
+        if out.len() < 1040 || (out.len() - 1040) / 10 < piece.len() {
+            return Err(Refusal::Memory);
+        }
+        Ok(self.take_piece(piece, out))
+    }
+
+    // What is printed at the end of the input.
+    fn last(&self, out: &mut [u8]) -> usize
+        requires { 64 ≤ length out.old }
+        ensures ends { Ends self.now out.old result out.new }
+        ensures within { result ≤ 64 }
+    {
+        match &self.phase {
+            Phase::Plan { .. } => lay_no_end(out),
+            Phase::Events { line, .. } => {
+                if line.len() == 0 {
+                    return 0;
+                }
+                lay_unreadable(out, 0)
+            }
+            Phase::Over => 0,
+        }
+    }
+
+    /// Ends the input: writes what is then printed at the start of memory, and answers its size. 64 bytes are enough.
+    pub fn end(self, out: &mut [u8]) -> Result<usize, Refusal>
+        ensures ends { EndsIn self out.old result out.new }
+        ensures within { elim result [ Ok n ↦ n ≤ length out.old | Err why ↦ Unit {0} ] }
+    {
+        if out.len() < 64 {
+            return Err(Refusal::Memory);
+        }
+        Ok(self.last(out))
+    }
+}

@@ -1,5 +1,0 @@
-pub mod Fed
-pub mod Made
-pub mod Plays
-pub mod Said
-pub mod Steps
