@@ -1,4 +1,5 @@
 ghost use Rattle.std.specs.Prelude.{◌≡◌, ◌+◌, ◌*◌, ◌≤◌, true, [], ◌∷◌, ◌++◌, length};
+ghost use Rattle.byte_vec.specs.Bytes.{Appends};
 ghost use Rattle.event.specs.Lines.{read_event};
 ghost use Rattle.limits.specs.Lines.{limits_text};
 ghost use Rattle.plan.specs.Of.{plan_contents};
@@ -83,6 +84,13 @@ fn take_event_byte(
     answer_line(controller, event, out, at)
 }
 
+// Keeps a byte of the plan's text, where it has fewer than 16,383: the newline of its empty line is one more.
+fn keep(text: &mut ByteVec<16383>, b: u8) -> Result<(), Full>
+    ensures { Appends 16383 text.old (b ∷ []) result text.new }
+{
+    text.push(b)
+}
+
 // A whole phase is made outside `take_byte`, where the room for one would be zeroed for each byte.
 impl DryRun {
     // No empty line has come in time.
@@ -123,7 +131,7 @@ impl DryRun {
                 if b == b'\n' && *begins {
                     return self.close_plan(out);
                 }
-                match text.push(b) {
+                match keep(text, b) {
                     Ok(()) => {
                         *begins = b == b'\n';
                         0
