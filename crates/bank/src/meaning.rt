@@ -1,5 +1,7 @@
-ghost use Rattle.std.specs.Prelude.{◌≡◌, ℕ, ◌<◌, List, length};
+ghost use Rattle.std.specs.Prelude.{◌≡◌, ℕ, ◌<◌, Bool, List, Result, length};
 ghost use Rattle.std.specs.List.{slice_get};
+ghost use Rattle.bank.specs.declared.refusal.Refusal.{Refusal as Why};
+ghost use Rattle.bank.specs.declared.request.Mode.{Mode as Way};
 ghost use Rattle.bank.specs.declared.request.Request.{Request as Active};
 ghost use Rattle.bank.specs.Lists.{request_of};
 ghost use Rattle.bank.specs.Questions.{Told, Tells, resource_questions, limit_questions, party_questions};
@@ -14,6 +16,11 @@ pub trait Bank {
     ghost told: { Self → Told };
 
     ghost active: { Self → ℕ → List Active };
+
+    /// What a maker makes known, beyond the meaning, of how enter and leave change his bank. It may be nothing.
+    ghost entered: { ℕ → ℕ → Way → Result Bool Why → Self → Self → Type 0 } = { λ r p m result old new. Unit {0} };
+
+    ghost left: { ℕ → ℕ → Result (Unit {0}) Why → Self → Self → Type 0 } = { λ r p result old new. Unit {0} };
 
     /// How many resources there are, numbered from 0.
     fn resources(&self) -> u32
@@ -51,12 +58,14 @@ pub trait Bank {
     fn enter(&mut self, resource: u32, party: u32, mode: Mode) -> Result<bool, Refusal>
         ensures told { told self.new ≡ told self.old }
         ensures enters { Enters (told self.old) resource party mode result (active self.old) (active self.new) }
+        ensures exact { entered resource party mode result self.old self.new }
         ensures keeps { Keeps result self.old self.new };
 
     /// Removes the request of a party that holds.
     fn leave(&mut self, resource: u32, party: u32) -> Result<(), Refusal>
         ensures told { told self.new ≡ told self.old }
         ensures leaves { Leaves (told self.old) resource party result (active self.old) (active self.new) }
+        ensures exact { left resource party result self.old self.new }
         ensures keeps { Keeps result self.old self.new };
 
     ghost small: { (b : Self) → Small (told b) };

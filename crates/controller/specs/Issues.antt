@@ -2,6 +2,7 @@
 use Rattle.std.specs.Prelude.{◌≡◌, ℕ, ◌<◌, Bool, true, false, cond, List, [], length, Some, None, Ok, Err, Option, Result, slice_index_or}
 use Rattle.bank.specs.Meaning.{Lists, Enters}
 use Rattle.bank.specs.Questions.{Told, enter_questions}
+use Rattle.bank.specs.declared.refusal.Refusal.{Refusal as BankRefusal}
 use Rattle.bank.specs.declared.request.Mode.{Mode}
 use Rattle.bank.specs.declared.request.Request.{Request}
 use Rattle.text.specs.Questions.{first_no}
@@ -31,3 +32,10 @@ pub record LetsIn (n r : ℕ) (xs : List Request) (old new : List Task) : Type 0
 abbrev pub IsNext : ℕ → (ℕ → Task) → Option ℕ → Type 0
 IsNext n tasks None = Unit {0}
 IsNext n tasks (Some u) = (u < n) × (is_held_back (tasks u).state ≡ true)
+
+-- what is known of how a bank changes by an ask
+abbrev pub AskChanges : {X : Type 0} → (ℕ → ℕ → Mode → Result Bool BankRefusal → X → X → Type 0) → ℕ → ℕ → Mode → Result Asked Refusal → X → X → Type 0
+AskChanges entered t r m (Ok Hold) old new = entered r t m (Ok true) old new
+AskChanges entered t r m (Ok Wait) old new = entered r t m (Ok false) old new
+AskChanges entered t r m (Ok Back) old new = new ≡ old
+AskChanges entered t r m (Err why) old new = new ≡ old

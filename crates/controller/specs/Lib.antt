@@ -1,3 +1,4 @@
+pub mod Banks
 pub mod Checks
 pub mod Issues
 pub mod Limits

@@ -12,20 +12,21 @@ use Rattle.limits.specs.Lines.{limits_text}
 use Rattle.plan.specs.Contents.{Contents}
 use Rattle.plan_text.specs.Texts.{Verdict, read_text}
 use Rattle.rules.specs.Answers.{made}
-use Rattle.rules.specs.Histories.{Moment, History}
-use Rattle.rules.specs.Jobs.{Setup, Snapshot}
+use Rattle.rules.specs.Histories.{History}
+use Rattle.rules.specs.Promises.{Lawful}
 use Rattle.rules.specs.Runs.{Runs, moment}
 use Rattle.text.specs.Lines.{lines_of}
 use Rattle.text.specs.Memory.{overlay}
 use Rattle.text.proofs.Writes.{overlay_none, overlay_more}
-use Rattle.dry_run.specs.Fed.{setup, snapshot, Planning, Replaying, FedIn, Fed, Laid, Takes, Ends}
+use Rattle.dry_run.specs.Fed.{Planning, Replaying, FedIn, Fed, Laid, Takes, Ends}
 use Rattle.dry_run.specs.Steps.{LineDone, reserve_in, WaitsIn}
-use Rattle.dry_run.specs.Made.{meaning, MadeFrom}
+use Rattle.dry_run.specs.Made.{meaning, setup, snapshot, MadeFrom}
 use Rattle.dry_run.specs.Plays.{Replays, none, unreadable, answered, Plays, PrintedBy, Printed}
 use Rattle.dry_run.specs.Said.{before_empty, plan_part, part_verdict, verdict, refused_text, plan_told, behind_plan, said}
 use Rattle.dry_run.specs.declared.run.DryRun.{DryRun}
 use Rattle.dry_run.specs.declared.run.Phase.{Phase}
 use Rattle.dry_run.specs.declared.run.Phase.TheVariants.{Plan, Events, Over}
+use Rattle.dry_run.proofs.SameRuns.{one_print}
 use Rattle.dry_run.proofs.Bytes.{begins_push, found_not, part_found, part_none, part_short, Plain, plain_push, plain_line, plain_last, plain_unread, reads_front, front_grows, front_stays}
 
 pub into : (p q : Phase) → p ≡ q → (i o : List ℕ) → FedIn p i o → FedIn q i o
@@ -74,7 +75,7 @@ module _ (text i o : List ℕ) (planning : Planning text true i o) where
   plan_refused question line e =
       refused text true i o planning 10 question line (λ more. ap verdict (append_assoc i (10 ∷ []) more) ∙ (ap part_verdict (found more) ∙ (ap read_text (sym planning.held) ∙ e)))
 
-  pub plan_accepted : (c : Contents) (controller : Controller Banks meaning) → read_text text ≡ Ok c → MadeFrom c (setup controller) (snapshot controller) → Replaying controller [] (i ++ (10 ∷ [])) (o ++ limits_text (plan_told c) c)
+  pub plan_accepted : (c : Contents) (controller : Controller Banks meaning) → read_text text ≡ Ok c → MadeFrom c controller → Replaying controller [] (i ++ (10 ∷ [])) (o ++ limits_text (plan_told c) c)
   plan_accepted c controller e m = record {
     text = i;
     contents = c;
@@ -88,7 +89,7 @@ module _ (text i o : List ℕ) (planning : Planning text true i o) where
     plain = tt;
     held = refl;
     plays = record {
-      begins = snapshot controller;
+      begins = controller;
       controller = m;
       history = moment made (snapshot controller) ∷ [];
       runs = m.starts.0;
@@ -102,31 +103,33 @@ module _ (text i o : List ℕ) (planning : Planning text true i o) where
 -- THE EVENTS
 
 -- a run goes on by one line
-module _ (c : Contents) (a : Setup) (s t : Snapshot) (lines : List (List ℕ)) (o : List ℕ) (p : Plays c a s lines o) (line printed : List ℕ) where
+module _ (c : Contents) (k next : Controller Banks meaning) (lines : List (List ℕ)) (o : List ℕ) (p : Plays c k lines o) (line printed : List ℕ) where
   longer : o ++ printed ≡ limits_text (plan_told c) c ++ (p.answers ++ printed)
   longer = ap (λ xs. xs ++ printed) p.printed ∙ append_assoc (limits_text (plan_told c) c) p.answers printed
 
-  pub plays_more : (e : Option Event) → read_event line ≡ e → LineDone a s e printed t → Plays c a t (lines ++ (line ∷ [])) (o ++ printed)
-  plays_more None r (text, same) = record {
-    begins = p.begins;
-    controller = p.controller;
-    history = p.history;
-    runs = subst (λ x. Runs a x p.history) (sym same) p.runs;
-    lawful = p.lawful;
-    answers = p.answers ++ printed;
-    replays = subst (λ x. Replays (moment made p.begins) (lines ++ (line ∷ [])) p.history (p.answers ++ x)) (sym text) (unreadable line p.replays r);
-    printed = longer;
-  }
-  plays_more (Some e) r (call, of, text, follows) =
+  pub plays_more : (e : Option Event) → read_event line ≡ e → LineDone k e printed next → Plays c next (lines ++ (line ∷ [])) (o ++ printed)
+  plays_more None r (text, same) =
+      let more : Plays c k (lines ++ (line ∷ [])) (o ++ printed) = record {
+        begins = p.begins;
+        controller = p.controller;
+        history = p.history;
+        runs = p.runs;
+        lawful = p.lawful;
+        answers = p.answers ++ printed;
+        replays = subst (λ x. Replays p.begins (lines ++ (line ∷ [])) p.history k (p.answers ++ x)) (sym text) (unreadable line p.replays r);
+        printed = longer;
+      } in
+      subst (λ x. Plays c x (lines ++ (line ∷ [])) (o ++ printed)) (sym same) more
+  plays_more (Some e) r (call, of, text, follows, step) =
       let on = follows p.history p.runs in
       record {
         begins = p.begins;
         controller = p.controller;
-        history = moment call t ∷ p.history;
-        runs = on.0;
-        lawful = on.1;
+        history = moment call (snapshot next) ∷ p.history;
+        runs = subst (λ x. Runs x (snapshot next) (moment call (snapshot next) ∷ p.history)) (sym step.same) on.0;
+        lawful = subst (λ x. Lawful x (moment call (snapshot next) ∷ p.history)) (sym step.same) on.1;
         answers = p.answers ++ printed;
-        replays = subst (λ x. Replays (moment made p.begins) (lines ++ (line ∷ [])) (moment call t ∷ p.history) (p.answers ++ x)) (sym text) (answered line e (moment call t) p.replays r of);
+        replays = subst (λ x. Replays p.begins (lines ++ (line ∷ [])) (moment call (snapshot next) ∷ p.history) next (p.answers ++ x)) (sym text) (answered line e call next p.replays r of step);
         printed = longer;
       }
 
@@ -148,7 +151,7 @@ module _ (controller : Controller Banks meaning) (kept i o : List ℕ) (replayin
     cut = λ more. ap lines_of (append_assoc replaying.events (b ∷ []) more) ∙ (replaying.cut (b ∷ more) ∙ ap (λ xs. replaying.lines ++ lines_of xs) (sym (append_assoc replaying.line (b ∷ []) more)));
     plain = plain_push replaying.line b replaying.plain plain;
     held = held;
-    plays = subst (λ x. Plays replaying.contents (setup controller) (snapshot controller) replaying.lines x) (sym (append-nil o)) replaying.plays;
+    plays = subst (λ x. Plays replaying.contents controller replaying.lines x) (sym (append-nil o)) replaying.plays;
   }
 
   -- the byte is kept, or the line is too long already
@@ -165,11 +168,11 @@ module _ (controller : Controller Banks meaning) (kept i o : List ℕ) (replayin
   event_pushed b (Err why) front plain (many, e) = subst (λ x. Replaying controller x (i ++ (b ∷ [])) (o ++ [])) (sym e) (event_stays b plain many)
 
   -- a newline
-  pub event_line : (after : Controller Banks meaning) (printed : List ℕ) → setup after ≡ setup controller → LineDone (setup controller) (snapshot controller) (read_event (kept ++ (10 ∷ []))) printed (snapshot after) → Replaying after [] (i ++ (10 ∷ [])) (o ++ printed)
-  event_line after printed same does =
+  pub event_line : (after : Controller Banks meaning) (printed : List ℕ) → LineDone controller (read_event (kept ++ (10 ∷ []))) printed after → Replaying after [] (i ++ (10 ∷ [])) (o ++ printed)
+  event_line after printed does =
       let line : List ℕ = replaying.line ++ (10 ∷ []) in
       let read : read_event (kept ++ (10 ∷ [])) ≡ read_event line = ap (λ xs. read_event (xs ++ (10 ∷ []))) replaying.held ∙ reads_front replaying.line in
-      let on = plays_more replaying.contents (setup controller) (snapshot controller) (snapshot after) replaying.lines o replaying.plays line printed (read_event line) refl (subst (λ e. LineDone (setup controller) (snapshot controller) e printed (snapshot after)) read does) in
+      let on = plays_more replaying.contents controller after replaying.lines o replaying.plays line printed (read_event line) refl (subst (λ e. LineDone controller e printed after) read does) in
       record {
         text = replaying.text;
         contents = replaying.contents;
@@ -182,7 +185,7 @@ module _ (controller : Controller Banks meaning) (kept i o : List ℕ) (replayin
         cut = λ more. ap lines_of (append_assoc replaying.events (10 ∷ []) more) ∙ (replaying.cut (10 ∷ more) ∙ (ap (λ xs. replaying.lines ++ xs) (plain_line replaying.line more replaying.plain) ∙ sym (append_assoc replaying.lines (line ∷ []) (lines_of more))));
         plain = tt;
         held = refl;
-        plays = subst (λ x. Plays replaying.contents x (snapshot after) (replaying.lines ++ (line ∷ [])) (o ++ printed)) (sym same) on;
+        plays = on;
       }
 
 -- BEHIND A REFUSED PLAN
@@ -223,20 +226,20 @@ takes_more d e f p q old middle mid end new room x y =
 
 -- THE END
 
-no_lines : (first : Moment) (lines : List (List ℕ)) (h : History) (out : List ℕ) → Replays first lines h out → lines ≡ [] → out ≡ []
-no_lines first _ _ _ none e = refl
-no_lines first _ _ _ (unreadable {lines} line r u) e = absurd (omega (arith, length_push lines line, ap length e))
-no_lines first _ _ _ (answered {lines} line event m r u of) e = absurd (omega (arith, length_push lines line, ap length e))
+no_lines : (first : Controller Banks meaning) (lines : List (List ℕ)) (h : History) (k : Controller Banks meaning) (out : List ℕ) → Replays first lines h k out → lines ≡ [] → out ≡ []
+no_lines first _ _ _ _ none e = refl
+no_lines first _ _ _ _ (unreadable {lines} line r u) e = absurd (omega (arith, length_push lines line, ap length e))
+no_lines first _ _ _ _ (answered {lines} line event call next r u of step) e = absurd (omega (arith, length_push lines line, ap length e))
 
 -- with nothing behind the plan
 alone_by : (v : Verdict) (input out : List ℕ) → PrintedBy v input out → behind_plan input ≡ [] → out ≡ said v
-alone_by (Ok c) input out (a, s, p) b =
-    p.printed ∙ (ap (λ xs. limits_text (plan_told c) c ++ xs) (no_lines _ _ _ _ p.replays (ap lines_of b)) ∙ append-nil (limits_text (plan_told c) c))
+alone_by (Ok c) input out (k, p) b =
+    p.printed ∙ (ap (λ xs. limits_text (plan_told c) c ++ xs) (no_lines _ _ _ _ _ p.replays (ap lines_of b)) ∙ append-nil (limits_text (plan_told c) c))
 alone_by (Err why) input out e b = e
 
 pub ends_with : (d : DryRun) (old printed : List ℕ) (n : ℕ) (new : List ℕ) → Laid old 0 printed n new → ((i o : List ℕ) → Fed d i o → Printed i (o ++ printed)) → Ends d old n new
 ends_with d old printed n new laid law =
-    record { printed = printed; laid = laid; law = law; alone = λ i o fed b. alone_by (verdict i) i (o ++ printed) (law i o fed) b }
+    record { printed = printed; laid = laid; law = law; only = λ i o other fed p. one_print i other (o ++ printed) p (law i o fed); alone = λ i o fed b. alone_by (verdict i) i (o ++ printed) (law i o fed) b }
 
 pub end_plan : (text : List ℕ) (begun : Bool) (i o : List ℕ) → Planning text begun i o → Printed i (o ++ refused_text 22 0)
 end_plan text begun i o p =
@@ -254,15 +257,15 @@ module _ (controller : Controller Banks meaning) (kept i o : List ℕ) (r : Repl
   lines_all : lines_of (behind_plan i) ≡ r.lines ++ lines_of r.line
   lines_all = ap lines_of (behind ∙ sym (append-nil r.events)) ∙ (r.cut [] ∙ ap (λ xs. r.lines ++ lines_of xs) (append-nil r.line))
 
-  printed_with : (ls : List (List ℕ)) (out : List ℕ) → lines_of (behind_plan i) ≡ ls → Plays r.contents (setup controller) (snapshot controller) ls out → Printed i out
-  printed_with ls out e p = subst (λ v. PrintedBy v i out) (sym (ap part_verdict part ∙ r.accepted)) (setup controller, snapshot controller, subst (λ x. Plays r.contents (setup controller) (snapshot controller) x out) (sym e) p)
+  printed_with : (ls : List (List ℕ)) (out : List ℕ) → lines_of (behind_plan i) ≡ ls → Plays r.contents controller ls out → Printed i out
+  printed_with ls out e p = subst (λ v. PrintedBy v i out) (sym (ap part_verdict part ∙ r.accepted)) (controller, subst (λ x. Plays r.contents controller x out) (sym e) p)
 
   -- no line goes on
   pub end_whole : length kept ≡ 0 → Printed i (o ++ [])
   end_whole empty = from r.line refl
     where
       from : (line : List ℕ) → r.line ≡ line → Printed i (o ++ [])
-      from [] e = printed_with r.lines (o ++ []) (lines_all ∙ (ap (λ xs. r.lines ++ lines_of xs) e ∙ append-nil r.lines)) (subst (λ x. Plays r.contents (setup controller) (snapshot controller) r.lines x) (sym (append-nil o)) r.plays)
+      from [] e = printed_with r.lines (o ++ []) (lines_all ∙ (ap (λ xs. r.lines ++ lines_of xs) e ∙ append-nil r.lines)) (subst (λ x. Plays r.contents controller r.lines x) (sym (append-nil o)) r.plays)
       from (b ∷ bs) e = absurd (omega (arith, ap length (r.held ∙ ap (take 16) e)))
 
   -- a last line has no newline
@@ -274,7 +277,7 @@ module _ (controller : Controller Banks meaning) (kept i o : List ℕ) (r : Repl
       from (b ∷ bs) e =
           let plain : Plain (b ∷ bs) = subst Plain e r.plain in
           printed_with (r.lines ++ ((b ∷ bs) ∷ [])) (o ++ unreadable_text) (lines_all ∙ (ap (λ xs. r.lines ++ lines_of xs) e ∙ ap (λ xs. r.lines ++ xs) (plain_last b bs plain)))
-          (plays_more r.contents (setup controller) (snapshot controller) (snapshot controller) r.lines o r.plays (b ∷ bs) unreadable_text None (plain_unread (b ∷ bs) plain) (refl, refl))
+          (plays_more r.contents controller controller r.lines o r.plays (b ∷ bs) unreadable_text None (plain_unread (b ∷ bs) plain) (refl, refl))
 
 pub end_over : (i o : List ℕ) → FedIn Over i o → Printed i (o ++ [])
 end_over i o fed = subst (λ x. Printed x (o ++ [])) (append-nil i) (subst (Printed (i ++ [])) (sym (append-nil o)) (fed []))

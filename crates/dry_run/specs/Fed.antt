@@ -1,12 +1,10 @@
 -- A dry run in the middle of its input.
 use Rattle.std.specs.Prelude.{◌≡◌, ℕ, ◌+◌, ◌*◌, ◌<◌, Bool, true, false, List, [], ◌∷◌, ◌++◌, length, take, Some, None, Ok, Err, Result, ◌==◌, nat_le}
 use Rattle.std.specs.List.{AllByRecursion}
-use Rattle.controller.specs.Of.{setup_of, snapshot_of}
 use Rattle.controller.specs.declared.controller.Controller.{Controller}
 use Rattle.dry_run.specs.Banks.{Banks}
 use Rattle.plan.specs.Contents.{Contents}
 use Rattle.plan_text.specs.Texts.{read_text}
-use Rattle.rules.specs.Jobs.{Setup, Snapshot}
 use Rattle.text.specs.Lines.{lines_of}
 use Rattle.text.specs.Memory.{overlay}
 use Rattle.text.specs.Questions.{Question, ask, first_no}
@@ -18,12 +16,6 @@ use Rattle.dry_run.specs.Said.{before_empty, behind_plan, plan_part, said, verdi
 use Rattle.dry_run.specs.declared.run.DryRun.{DryRun}
 use Rattle.dry_run.specs.declared.run.Phase.{Phase}
 use Rattle.dry_run.specs.declared.run.Phase.TheVariants.{Plan, Events, Over}
-
-abbrev pub setup : Controller Banks meaning → Setup
-setup controller = setup_of meaning controller
-
-abbrev pub snapshot : Controller Banks meaning → Snapshot
-snapshot controller = snapshot_of meaning controller
 
 -- whether a line begins behind these bytes
 abbrev pub line_begins : Bool → List ℕ → Bool
@@ -51,7 +43,7 @@ pub record Replaying (controller : Controller Banks meaning) (kept input out : L
   pub cut : (more : List ℕ) → lines_of (events ++ more) ≡ lines ++ lines_of (line ++ more)
   pub plain : AllByRecursion (λ b. (b == 10) ≡ false) line
   pub held : kept ≡ take 16 line
-  pub plays : Plays contents (setup controller) (snapshot controller) lines out
+  pub plays : Plays contents controller lines out
 
 abbrev pub FedIn : Phase → List ℕ → List ℕ → Type 0
 FedIn (Plan text begins) input out = Planning text begins input out
@@ -84,11 +76,12 @@ abbrev pub Feeds : DryRun → List ℕ → List ℕ → Result ℕ Refusal → D
 Feeds d piece old (Ok n) d' new = (first_no (room_questions piece old) ≡ None) × Takes d d' piece old 0 n new
 Feeds d piece old (Err why) d' new = (first_no (room_questions piece old) ≡ Some (number why)) × (d' ≡ d) × (new ≡ old)
 
--- the input is over. With nothing behind its plan, what the plan says is all that was printed
+-- the input is over. Nothing else can be printed of the same bytes; with nothing behind its plan, what the plan says is all that was printed
 pub record Ends (d : DryRun) (old : List ℕ) (n : ℕ) (new : List ℕ) : Type 0 where
   pub printed : List ℕ
   pub laid : Laid old 0 printed n new
   pub law : (input out : List ℕ) → Fed d input out → Printed input (out ++ printed)
+  pub only : (input out other : List ℕ) → Fed d input out → Printed input other → other ≡ out ++ printed
   pub alone : (input out : List ℕ) → Fed d input out → behind_plan input ≡ [] → out ++ printed ≡ said (verdict input)
 
 -- 64 bytes are enough at the end

@@ -1,24 +1,22 @@
 -- What one line does, and how much may be printed.
 use Rattle.std.specs.Prelude.{◌≡◌, ℕ, ◌+◌, ◌*◌, ◌≤◌, List, length, min, true, Some, None, Option}
-use Rattle.controller.specs.Of.{setup_of, snapshot_of}
 use Rattle.controller.specs.declared.controller.Controller.{Controller}
 use Rattle.event.specs.Answers.{event_of, line_text, unreadable_text}
 use Rattle.event.specs.Lines.{event_text}
 use Rattle.event.specs.declared.event.Event.{Event}
 use Rattle.rules.specs.Answers.{Event as Call}
-use Rattle.rules.specs.Jobs.{Setup, Snapshot}
 use Rattle.rules.specs.Runs.{Follows}
 use Rattle.dry_run.specs.Fed.{Laid}
 use Rattle.dry_run.specs.Banks.{Banks}
-use Rattle.dry_run.specs.Made.{meaning}
+use Rattle.dry_run.specs.Made.{meaning, setup, snapshot, Step}
 use Rattle.dry_run.specs.declared.run.DryRun.{DryRun}
 use Rattle.dry_run.specs.declared.run.Phase.{Phase}
 use Rattle.dry_run.specs.declared.run.Phase.TheVariants.{Plan, Events, Over}
 
 -- a line that is an event is a call, with its answer printed; another is printed as unreadable, and nothing changes
-abbrev pub LineDone : Setup → Snapshot → Option Event → List ℕ → Snapshot → Type 0
-LineDone a s None printed t = (printed ≡ unreadable_text) × (t ≡ s)
-LineDone a s (Some e) printed t = (c : Call) × (event_of c ≡ Some e) × (printed ≡ line_text c) × Follows a s c t
+abbrev pub LineDone : Controller Banks meaning → Option Event → List ℕ → Controller Banks meaning → Type 0
+LineDone k None printed next = (printed ≡ unreadable_text) × (next ≡ k)
+LineDone k (Some e) printed next = (call : Call) × (event_of call ≡ Some e) × (printed ≡ line_text call) × Follows (setup k) (snapshot k) call (snapshot next) × Step k call next
 
 -- the size of an event's line, and of the shortest that is none
 abbrev pub line_size : Option Event → ℕ
@@ -30,8 +28,7 @@ pub record LineTaken (c c' : Controller Banks meaning) (event : Option Event) (o
   pub printed : List ℕ
   pub laid : Laid old at printed end new
   pub few : end ≤ at + 10 * line_size event
-  pub setup : setup_of meaning c' ≡ setup_of meaning c
-  pub does : LineDone (setup_of meaning c) (snapshot_of meaning c) event printed (snapshot_of meaning c')
+  pub does : LineDone c event printed c'
 
 -- how many bytes may still be printed of a line, which is kept up to 16 bytes
 abbrev pub line_reserve : List ℕ → ℕ

@@ -1,10 +1,9 @@
 ghost use Rattle.std.specs.Prelude.{◌≡◌, ◌+◌, ◌*◌, ◌≤◌, length, Some};
-ghost use Rattle.controller.specs.Of.{setup_of, snapshot_of};
 ghost use Rattle.event.specs.Answers.{call_of, event_of, line_text, event_size, unreadable_text};
 ghost use Rattle.rules.specs.Runs.{Follows};
 ghost use Rattle.dry_run.specs.Fed.{Laid};
 ghost use Rattle.dry_run.specs.Steps.{line_size, LineTaken};
-ghost use Rattle.dry_run.specs.Made.{meaning};
+ghost use Rattle.dry_run.specs.Made.{setup, snapshot, Step};
 
 use controller::controller::Controller;
 use event::answered::Answered;
@@ -17,8 +16,8 @@ use text::memory::write_bytes;
 // Puts an event to the controller.
 fn call(controller: &mut Controller<Pair<Slots, ReadersWriters>>, event: Event) -> Answered
     ensures event { event_of (call_of result) ≡ Some event }
-    ensures setup { setup_of meaning controller.new ≡ setup_of meaning controller.old }
-    ensures follows { Follows (setup_of meaning controller.old) (snapshot_of meaning controller.old) (call_of result) (snapshot_of meaning controller.new) }
+    ensures follows { Follows (setup controller.old) (snapshot controller.old) (call_of result) (snapshot controller.new) }
+    ensures step { Step controller.old (call_of result) controller.new }
 {
     match event {
         Event::Release(task) => Answered::Release(task, controller.release(task)),

@@ -1,5 +1,6 @@
 ghost use Rattle.pair.specs.Pairs.{pair_told, pair_active};
 ghost use Rattle.pair.specs.Halves.{IsHalf};
+ghost use Rattle.pair.specs.Known.{pair_entered, pair_left};
 ghost use Rattle.pair.specs.Laws.{pair_small, pair_sound};
 
 use crate::within::enter_within;
@@ -41,6 +42,10 @@ impl<A: Bank, B: Bank> Bank for Pair<A, B> {
     ghost told = { λ s. pair_told (A.Bank.told s.first) (B.Bank.told s.second) };
 
     ghost active = { λ s. pair_active (A.Bank.told s.first) (A.Bank.active s.first) (B.Bank.active s.second) };
+
+    ghost entered = { λ r p m result old new. pair_entered A.Bank.told B.Bank.told A.Bank.entered B.Bank.entered r p m result old new };
+
+    ghost left = { λ r p result old new. pair_left A.Bank.told B.Bank.told A.Bank.left B.Bank.left r p result old new };
 
     ghost small = { λ b. pair_small (A.Bank.told b.first) (B.Bank.told b.second) (A.Bank.small b.first) (B.Bank.small b.second) };
 

@@ -1,4 +1,4 @@
-ghost use Rattle.std.specs.Prelude.{◌≡◌, ◌≤◌};
+ghost use Rattle.std.specs.Prelude.{◌≡◌, ◌≤◌, Ok, Err};
 ghost use Rattle.bank.specs.Lists.{is_active};
 ghost use Rattle.bank.specs.Questions.{Tells, party_questions};
 ghost use Rattle.bank.specs.Meaning.{Enters, Keeps};
@@ -28,6 +28,7 @@ pub(crate) fn enter_within<B: Bank>(
     ensures told { B.Bank.told bank.new ≡ B.Bank.told bank.old }
     ensures enters { Enters (with_seats seats (B.Bank.told bank.old)) resource party mode result (B.Bank.active bank.old) (B.Bank.active bank.new) }
     ensures keeps { Keeps result bank.old bank.new }
+    ensures exact { elim result [ Ok h ↦ B.Bank.entered resource party mode (Ok h) bank.old bank.new | Err why ↦ Unit {0} ] }
 {
     bank.turn_limit(resource, mode)?;
     if is_active(bank, resource, party)? {

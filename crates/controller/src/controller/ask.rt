@@ -1,7 +1,8 @@
 ghost use Rattle.std.specs.Prelude.{◌≡◌};
 ghost use Rattle.controller.specs.Checks.{Checked};
+ghost use Rattle.controller.specs.Banks.{BankChanges};
 ghost use Rattle.controller.specs.Of.{setup_of, snapshot_of, Unchanged};
-ghost use Rattle.controller.specs.Issues.{Asks};
+ghost use Rattle.controller.specs.Issues.{Asks, AskChanges};
 ghost use Rattle.rules.specs.Answers.{asked};
 ghost use Rattle.rules.specs.Moves.{Does};
 ghost use Rattle.rules.specs.Runs.{Follows};
@@ -26,6 +27,7 @@ fn issue<B: Bank>(
 ) -> Result<Asked, Refusal>
     ensures told { B.Bank.told bank.new ≡ B.Bank.told bank.old }
     ensures asks { Asks (B.Bank.told bank.old) first task resource mode result (B.Bank.active bank.old) (B.Bank.active bank.new) }
+    ensures changes { AskChanges B.Bank.entered task resource mode result bank.old bank.new }
     ensures keeps { Unchanged result bank.old bank.new }
 {
     if !first {
@@ -53,6 +55,7 @@ impl<B: Bank> Controller<B> {
     fn do_ask(&mut self, task: u32, resource: u32, mode: Mode) -> Result<Asked, Refusal>
         ensures setup { setup_of B.Bank self.new ≡ setup_of B.Bank self.old }
         ensures does { Does (setup_of B.Bank self.old) (snapshot_of B.Bank self.old) (asked task resource mode result) (snapshot_of B.Bank self.new) }
+        ensures bank { BankChanges B.Bank (snapshot_of B.Bank self.old) (asked task resource mode result) self.old.bank self.new.bank }
         ensures keeps { Unchanged result self.old self.new }
     {
         self.check_ask(task, resource, mode)?;
@@ -70,6 +73,7 @@ impl<B: Bank> Controller<B> {
         ensures setup { setup_of B.Bank self.new ≡ setup_of B.Bank self.old }
         ensures does { Does (setup_of B.Bank self.old) (snapshot_of B.Bank self.old) (asked task resource mode result) (snapshot_of B.Bank self.new) }
         ensures follows { Follows (setup_of B.Bank self.old) (snapshot_of B.Bank self.old) (asked task resource mode result) (snapshot_of B.Bank self.new) }
+        ensures bank { BankChanges B.Bank (snapshot_of B.Bank self.old) (asked task resource mode result) self.old.bank self.new.bank }
         ensures keeps { Unchanged result self.old self.new }
     {
         self.do_ask(task, resource, mode)

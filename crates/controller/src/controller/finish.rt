@@ -1,6 +1,7 @@
 ghost use Rattle.std.specs.Prelude.{◌≡◌, ℕ, ◌≤◌};
 ghost use Rattle.bank.specs.Questions.{Told};
 ghost use Rattle.controller.specs.Issues.{IsNext};
+ghost use Rattle.controller.specs.Banks.{BankChanges};
 ghost use Rattle.controller.specs.Of.{setup_of, snapshot_of, Unchanged};
 ghost use Rattle.plan.specs.Of.{plan_contents};
 ghost use Rattle.rules.specs.Answers.{finished};
@@ -32,6 +33,7 @@ impl<B: Bank> Controller<B> {
     fn do_finish(&mut self, task: u32) -> Result<Finished, Refusal>
         ensures setup { setup_of B.Bank self.new ≡ setup_of B.Bank self.old }
         ensures does { Does (setup_of B.Bank self.old) (snapshot_of B.Bank self.old) (finished task result) (snapshot_of B.Bank self.new) }
+        ensures bank { BankChanges B.Bank (snapshot_of B.Bank self.old) (finished task result) self.old.bank self.new.bank }
         ensures keeps { Unchanged result self.old self.new }
     {
         self.check(task, Call::Finish)?;
@@ -67,6 +69,7 @@ impl<B: Bank> Controller<B> {
         ensures setup { setup_of B.Bank self.new ≡ setup_of B.Bank self.old }
         ensures does { Does (setup_of B.Bank self.old) (snapshot_of B.Bank self.old) (finished task result) (snapshot_of B.Bank self.new) }
         ensures follows { Follows (setup_of B.Bank self.old) (snapshot_of B.Bank self.old) (finished task result) (snapshot_of B.Bank self.new) }
+        ensures bank { BankChanges B.Bank (snapshot_of B.Bank self.old) (finished task result) self.old.bank self.new.bank }
         ensures keeps { Unchanged result self.old self.new }
     {
         self.do_finish(task)

@@ -1,4 +1,5 @@
 ghost use Rattle.std.specs.Prelude.{◌≡◌, ◌<◌, ◌≤◌};
+ghost use Rattle.controller.specs.Banks.{BankChanges};
 ghost use Rattle.controller.specs.Of.{setup_of, snapshot_of, Unchanged};
 ghost use Rattle.controller.specs.Issues.{LetsIn};
 ghost use Rattle.rules.specs.Answers.{gave};
@@ -47,6 +48,7 @@ impl<B: Bank> Controller<B> {
     fn do_give(&mut self, task: u32) -> Result<u32, Refusal>
         ensures setup { setup_of B.Bank self.new ≡ setup_of B.Bank self.old }
         ensures does { Does (setup_of B.Bank self.old) (snapshot_of B.Bank self.old) (gave task result) (snapshot_of B.Bank self.new) }
+        ensures bank { BankChanges B.Bank (snapshot_of B.Bank self.old) (gave task result) self.old.bank self.new.bank }
         ensures keeps { Unchanged result self.old self.new }
     {
         self.check(task, Call::Give)?;
@@ -66,6 +68,7 @@ impl<B: Bank> Controller<B> {
         ensures setup { setup_of B.Bank self.new ≡ setup_of B.Bank self.old }
         ensures does { Does (setup_of B.Bank self.old) (snapshot_of B.Bank self.old) (gave task result) (snapshot_of B.Bank self.new) }
         ensures follows { Follows (setup_of B.Bank self.old) (snapshot_of B.Bank self.old) (gave task result) (snapshot_of B.Bank self.new) }
+        ensures bank { BankChanges B.Bank (snapshot_of B.Bank self.old) (gave task result) self.old.bank self.new.bank }
         ensures keeps { Unchanged result self.old self.new }
     {
         self.do_give(task)

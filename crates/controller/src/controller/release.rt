@@ -1,4 +1,5 @@
 ghost use Rattle.std.specs.Prelude.{◌≡◌};
+ghost use Rattle.controller.specs.Banks.{BankChanges};
 ghost use Rattle.controller.specs.Of.{setup_of, snapshot_of, Unchanged};
 ghost use Rattle.rules.specs.Answers.{released};
 ghost use Rattle.rules.specs.Moves.{Does};
@@ -15,6 +16,7 @@ impl<B: Bank> Controller<B> {
     fn do_release(&mut self, task: u32) -> Result<u32, Refusal>
         ensures setup { setup_of B.Bank self.new ≡ setup_of B.Bank self.old }
         ensures does { Does (setup_of B.Bank self.old) (snapshot_of B.Bank self.old) (released task result) (snapshot_of B.Bank self.new) }
+        ensures bank { BankChanges B.Bank (snapshot_of B.Bank self.old) (released task result) self.old.bank self.new.bank }
         ensures keeps { Unchanged result self.old self.new }
     {
         self.check(task, Call::Release)?;
@@ -39,6 +41,7 @@ impl<B: Bank> Controller<B> {
         ensures setup { setup_of B.Bank self.new ≡ setup_of B.Bank self.old }
         ensures does { Does (setup_of B.Bank self.old) (snapshot_of B.Bank self.old) (released task result) (snapshot_of B.Bank self.new) }
         ensures follows { Follows (setup_of B.Bank self.old) (snapshot_of B.Bank self.old) (released task result) (snapshot_of B.Bank self.new) }
+        ensures bank { BankChanges B.Bank (snapshot_of B.Bank self.old) (released task result) self.old.bank self.new.bank }
         ensures keeps { Unchanged result self.old self.new }
     {
         self.do_release(task)

@@ -1,4 +1,5 @@
 ghost use Rattle.std.specs.Prelude.{◌≡◌, ◌<◌, slice_index_or};
+ghost use Rattle.controller.specs.Banks.{BankChanges};
 ghost use Rattle.controller.specs.Of.{setup_of, snapshot_of, Unchanged};
 ghost use Rattle.controller.specs.Ticks.{TicksTask, TicksAll};
 ghost use Rattle.rules.specs.Answers.{ticked};
@@ -53,6 +54,7 @@ impl<B: Bank> Controller<B> {
     fn do_tick(&mut self) -> Result<u32, Refusal>
         ensures setup { setup_of B.Bank self.new ≡ setup_of B.Bank self.old }
         ensures does { Does (setup_of B.Bank self.old) (snapshot_of B.Bank self.old) (ticked result) (snapshot_of B.Bank self.new) }
+        ensures bank { BankChanges B.Bank (snapshot_of B.Bank self.old) (ticked result) self.old.bank self.new.bank }
         ensures keeps { Unchanged result self.old self.new }
     {
         let rows = self.tick_all().map_err(Refusal::Late)?;
@@ -69,6 +71,7 @@ impl<B: Bank> Controller<B> {
         ensures setup { setup_of B.Bank self.new ≡ setup_of B.Bank self.old }
         ensures does { Does (setup_of B.Bank self.old) (snapshot_of B.Bank self.old) (ticked result) (snapshot_of B.Bank self.new) }
         ensures follows { Follows (setup_of B.Bank self.old) (snapshot_of B.Bank self.old) (ticked result) (snapshot_of B.Bank self.new) }
+        ensures bank { BankChanges B.Bank (snapshot_of B.Bank self.old) (ticked result) self.old.bank self.new.bank }
         ensures keeps { Unchanged result self.old self.new }
     {
         self.do_tick()

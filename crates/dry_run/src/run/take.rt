@@ -3,7 +3,7 @@ ghost use Rattle.byte_vec.specs.Bytes.{Appends};
 ghost use Rattle.event.specs.Lines.{read_event};
 ghost use Rattle.limits.specs.Lines.{limits_text};
 ghost use Rattle.plan.specs.Of.{plan_contents};
-ghost use Rattle.dry_run.specs.Fed.{run_in, setup, snapshot, Laid, Takes};
+ghost use Rattle.dry_run.specs.Fed.{run_in, Laid, Takes};
 ghost use Rattle.dry_run.specs.Steps.{reserve_in, reserve, line_reserve, line_size, AtLine, Waits};
 ghost use Rattle.dry_run.specs.Made.{MadeFrom};
 ghost use Rattle.dry_run.specs.Said.{plan_told, refused_text};
@@ -28,7 +28,7 @@ fn accept(plan: &Plan, out: &mut [u8]) -> (Controller<Pair<Slots, ReadersWriters
     requires { 1040 ≤ length out.old }
     ensures laid { Laid out.old 0 (limits_text (plan_told (plan_contents plan.now)) (plan_contents plan.now)) result.1 out.new }
     ensures few { result.1 ≤ 1040 }
-    ensures made { MadeFrom (plan_contents plan.now) (setup result.0) (snapshot result.0) }
+    ensures made { MadeFrom (plan_contents plan.now) result.0 }
 {
     let banks = banks_of(plan);
     let end = write_limits(plan, &banks, out).unwrap();

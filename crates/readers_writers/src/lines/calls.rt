@@ -16,6 +16,10 @@ impl Bank for ReadersWriters {
 
     ghost active = { active_of };
 
+    ghost entered = { λ r p m result old new. EntersExactly r p m result old.lines new.lines };
+
+    ghost left = { λ r p result old new. LeavesExactly r p result old.lines new.lines };
+
     ghost small = { is_small };
 
     ghost sound = { is_sound };

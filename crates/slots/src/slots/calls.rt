@@ -14,6 +14,10 @@ impl Bank for Slots {
 
     ghost active = { λ s r. active_of s r };
 
+    ghost entered = { λ r p m result old new. EntersLast r p result old new };
+
+    ghost left = { λ r p result old new. LeavesPlace r p result old new };
+
     ghost small = { is_small };
 
     ghost sound = { is_sound };

@@ -1,10 +1,11 @@
-use Rattle.std.proofs.Common.{◌≡◌, ℕ, ◌<◌, cond, eqb, length, get_or, set, Some, None, sym, refl, ap, ◌∙◌, length-set}
+use Rattle.std.proofs.Common.{◌≡◌, ℕ, ◌<◌, cond, eqb, length, get_or, set, Some, None, Ok, sym, refl, ap, ◌∙◌, subst, length-set}
 use Rattle.std.proofs.lemmas.Bool.{ltb-true}
 use Rattle.std.proofs.lemmas.Result.{err_from_is_err_and}
 use Rattle.plan.specs.Of.{plan_contents}
 use Rattle.rules.specs.States.{wanted_of, asked_state, issued_state, in_state, idle_task}
 use Rattle.rules.specs.declared.task.State.{State}
 use Rattle.rules.specs.declared.task.Task.{Task}
+use Rattle.rules.specs.declared.task.Wanted.{Wanted}
 use Rattle.table.specs.Rows.{tasks_in}
 use Rattle.controller.specs.Of.{setup_of, snapshot_of}
 use Rattle.controller.proofs.Checking.{yes_parts}
@@ -33,6 +34,7 @@ returns-in_default g c =
             clock = refl;
             releases = refl;
           };
+      bank = refl;
       keeps = tt;
     }
 
@@ -62,6 +64,7 @@ returns-in_err-holds g c =
             clock = refl;
             releases = refl;
           };
+      bank = e.keeps;
       keeps = same_controllers _ self refl refl refl refl refl refl e.keeps;
     })
 
@@ -94,5 +97,6 @@ returns g c =
             clock = refl;
             releases = refl;
           };
+      bank = subst (λ (w : Wanted). b.entered w.resource u w.mode (Ok c.in_ok-holds.holds) self.bank c.enter.new.self) wanted e.exact;
       keeps = tt;
     }

@@ -34,5 +34,6 @@ returns-in_err-leave g c =
             clock = refl;
             releases = refl;
           };
+      bank = e.keeps;
       keeps = same_controllers _ self refl refl refl refl refl refl e.keeps;
     })

@@ -35,5 +35,6 @@ returns g c =
             clock = refl;
             releases = refl;
           };
+      bank = refl;
       keeps = tt;
     }

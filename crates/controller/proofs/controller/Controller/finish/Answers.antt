@@ -5,4 +5,4 @@ use Rattle.controller.proofs.controller.Controller.finish.Goals as goal
 pub returns : goal.returns
 returns g c =
     let e = c.do_finish.ensures in
-    record { setup = e.setup; does = e.does; follows = follows _ _ _ _ (sound_after g.B.Bank g.met.B.Bank.sound c.args.self.now c.do_finish.new.self e.setup) e.does; keeps = e.keeps }
+    record { setup = e.setup; does = e.does; follows = follows _ _ _ _ (sound_after g.B.Bank g.met.B.Bank.sound c.args.self.now c.do_finish.new.self e.setup) e.does; bank = e.bank; keeps = e.keeps }

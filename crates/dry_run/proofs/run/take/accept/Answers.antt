@@ -1,11 +1,11 @@
-use Rattle.std.proofs.Common.{◌≡◌, ◌+◌, length, ap, ◌∙◌}
-use Rattle.controller.specs.Of.{setup_of, snapshot_of}
+use Rattle.std.proofs.Common.{◌≡◌, ◌+◌, length, sym, ap, subst, ◌∙◌}
 use Rattle.limits.specs.Lines.{limits_text}
 use Rattle.plan.specs.Of.{plan_contents}
 use Rattle.readers_writers.specs.Banks.{told_of as writers_told_of}
 use Rattle.slots.specs.Of.{told_of as slots_told_of}
 use Rattle.text.specs.Memory.{overlay}
-use Rattle.dry_run.specs.Made.{meaning}
+use Rattle.dry_run.specs.Banks.{BanksOf}
+use Rattle.dry_run.specs.Made.{meaning, setup, snapshot}
 use Rattle.dry_run.specs.Said.{plan_told, slots_told, readers_writers_told}
 use Rattle.dry_run.proofs.SameTold.{pair_text}
 use Rattle.dry_run.proofs.Fits.{made_fitting}
@@ -27,11 +27,9 @@ returns-clause-made c =
     let of = c.banks_of-banks.ensures in
     let made = c.new.ensures in
     record {
-      banks = banks;
-      bank_of = of;
+      bank_of = subst (BanksOf (plan_contents c.args.plan.now)) (sym made.bank) of;
       plan = made.plan;
-      told = ap meaning.told made.bank;
-      lists = ap meaning.active made.bank;
-      fitting = made_fitting c.args.plan.now banks of (setup_of meaning c.new.result) (snapshot_of meaning c.new.result).lists made.plan (ap meaning.told made.bank) (ap meaning.active made.bank) made.begins.set_up.fitting;
+      fitting = made_fitting c.args.plan.now banks of (setup c.new.result) (snapshot c.new.result).lists made.plan (ap meaning.told made.bank) (ap meaning.active made.bank) made.begins.set_up.fitting;
+      begins = made.begins;
       starts = made.starts;
     }

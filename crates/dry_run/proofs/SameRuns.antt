@@ -1,0 +1,122 @@
+-- Of one input one output: two dry runs that read the same lines from the same plan stand the same and have printed the same.
+use Rattle.std.proofs.Common.{◌≡◌, ℕ, ◌+◌, List, [], ◌∷◌, ◌++◌, length, get_or, drop, Some, None, Ok, Err, sym, refl, ap, ◌∙◌, subst, arith}
+use mathlib.Core.Path.{fun_ext}
+use Rattle.std.proofs.lemmas.List.{length_push}
+use Rattle.std.proofs.lemmas.Option.{none-some, same_Some}
+use Rattle.bank.specs.Meaning.{Lists}
+use Rattle.controller.specs.Banks.{BankChanges}
+use Rattle.controller.specs.declared.controller.Controller.{Controller}
+use Rattle.event.specs.Answers.{event_of, line_text, unreadable_text}
+use Rattle.event.specs.Lines.{read_event}
+use Rattle.event.specs.declared.event.Event.{Event}
+use Rattle.limits.specs.Lines.{limits_text}
+use Rattle.bank.specs.Questions.{Told}
+use Rattle.plan.specs.Contents.{Contents, resource_count}
+use Rattle.plan_text.specs.Texts.{Verdict}
+use Rattle.rules.specs.Answers.{Event as Call}
+use Rattle.rules.specs.Histories.{History}
+use Rattle.rules.specs.Jobs.{Setup, Snapshot}
+use Rattle.rules.specs.Moves.{Does, moved_task, one_more_if}
+use Rattle.rules.specs.declared.task.Task.{Task}
+use Rattle.dry_run.specs.Banks.{Banks}
+use Rattle.dry_run.specs.Made.{meaning, setup, snapshot, MadeFrom, Step}
+use Rattle.dry_run.specs.Plays.{Replays, none, unreadable, answered, Plays, PrintedBy, Printed}
+use Rattle.dry_run.specs.Said.{behind_plan, plan_told, verdict}
+use Rattle.dry_run.proofs.SameBanks.{SameBanks, same_active, same_made, same_told}
+use Rattle.dry_run.proofs.SameCalls.{call_same}
+
+-- two controllers of one plan that stand the same
+record Same (k j : Controller Banks meaning) : Type 0 where
+  pub set_up : setup k ≡ setup j
+  pub stands : snapshot k ≡ snapshot j
+  pub banks : SameBanks k.bank j.bank
+
+abbrev standing : (ℕ → Task) → Lists → ℕ → ℕ → Snapshot
+standing tasks lists clock releases = record { tasks = tasks; lists = lists; clock = clock; releases = releases }
+
+stands_same : (s t : Snapshot) → ((q : ℕ) → s.tasks q ≡ t.tasks q) → s.lists ≡ t.lists → s.clock ≡ t.clock → s.releases ≡ t.releases → s ≡ t
+stands_same s t tasks lists clock releases =
+    ap (λ f. standing f s.lists s.clock s.releases) (fun_ext tasks)
+    ∙ (ap (λ l. standing t.tasks l s.clock s.releases) lists ∙ (ap (λ n. standing t.tasks t.lists n s.releases) clock ∙ ap (standing t.tasks t.lists t.clock) releases))
+
+-- A START
+
+abbrev made : Contents → Told → ℕ → ℕ → Setup
+made plan told tasks resources = record { plan = plan; told = told; tasks = tasks; resources = resources }
+
+starts_same : (c : Contents) (k j : Controller Banks meaning) → MadeFrom c k → MadeFrom c j → Same k j
+starts_same c k j x y =
+    let banks = same_made c k.bank j.bank x.bank_of y.bank_of in
+    let told = same_told c k.bank j.bank x.bank_of y.bank_of in
+    let plan = x.plan ∙ sym y.plan in
+    record {
+      set_up = setups (setup k) (setup j) plan told (x.fitting.tasks ∙ (ap (λ (p : Contents). length p.tasks) plan ∙ sym y.fitting.tasks)) (x.fitting.resources ∙ (ap resource_count plan ∙ sym y.fitting.resources));
+      stands = stands_same (snapshot k) (snapshot j) (λ q. x.begins.idle q ∙ sym (y.begins.idle q)) (same_active k.bank j.bank banks) (x.begins.clock ∙ sym y.begins.clock) (x.begins.releases ∙ sym y.begins.releases);
+      banks = banks;
+    }
+  where
+    setups : (a b : Setup) → a.plan ≡ b.plan → a.told ≡ b.told → a.tasks ≡ b.tasks → a.resources ≡ b.resources → a ≡ b
+    setups a b plan told tasks resources =
+        ap (λ p. made p a.told a.tasks a.resources) plan ∙ (ap (λ t. made b.plan t a.tasks a.resources) told ∙ (ap (λ n. made b.plan b.told n a.resources) tasks ∙ ap (made b.plan b.told b.tasks) resources))
+
+-- A STEP
+
+step_same : (k j : Controller Banks meaning) → Same k j → (e : Event) (x y : Call) → event_of x ≡ Some e → event_of y ≡ Some e → (p q : Controller Banks meaning) → Step k x p → Step j y q → Same p q × (line_text x ≡ line_text y)
+step_same k j same e x y f g p q a b =
+    let does : Does (setup k) (snapshot k) y (snapshot q) = subst (λ v. Does v (snapshot k) y (snapshot q)) (sym same.set_up) (subst (λ s. Does (setup j) s y (snapshot q)) (sym same.stands) b.does) in
+    let banks : BankChanges meaning (snapshot k) y j.bank q.bank = subst (λ s. BankChanges meaning s y j.bank q.bank) (sym same.stands) b.banks in
+    let both = call_same (setup k) (snapshot k) k.bank j.bank p.bank q.bank same.banks (snapshot p).lists (snapshot q).lists e x y f g a.does.answered does.answered a.banks banks in
+    let lists = same_active p.bank q.bank both.1 in (
+      record {
+        set_up = a.same ∙ (same.set_up ∙ sym b.same);
+        stands =
+            stands_same (snapshot p) (snapshot q)
+            (λ n. a.does.tasks n ∙ (ap (λ l. moved_task (snapshot k) x l n) lists ∙ (both.0.moved (snapshot q).lists n ∙ sym (does.tasks n))))
+            lists
+            (a.does.clock ∙ (ap (λ v. one_more_if v (snapshot k).clock) both.0.tick ∙ sym does.clock))
+            (a.does.releases ∙ (ap (λ v. one_more_if v (snapshot k).releases) both.0.release ∙ sym does.releases));
+        banks = both.1;
+      },
+      both.0.text,
+    )
+
+-- THE LINES
+
+snoc_same : (xs ys : List (List ℕ)) (x y : List ℕ) → xs ++ (x ∷ []) ≡ ys ++ (y ∷ []) → (xs ≡ ys) × (x ≡ y)
+snoc_same [] [] x y e = (refl, ap (λ l. get_or l 0 []) e)
+snoc_same [] (b ∷ bs) x y e = absurd (omega (arith, length_push bs y, ap length e))
+snoc_same (a ∷ more) [] x y e = absurd (omega (arith, length_push more x, ap length e))
+snoc_same (a ∷ more) (b ∷ bs) x y e =
+    let rest = snoc_same more bs x y (ap (drop 1) e) in
+    (ap (λ v. v ∷ more) (ap (λ l. get_or l 0 []) e) ∙ ap (λ vs. b ∷ vs) rest.0, rest.1)
+
+replays_same : (c : Contents) (f g : Controller Banks meaning) → Same f g → (ls ms : List (List ℕ)) (h i : History) (k j : Controller Banks meaning) (o q : List ℕ) → Replays f ls h k o → Replays g ms i j q → ls ≡ ms → Same k j × (o ≡ q)
+replays_same c f g same _ _ _ _ _ _ _ _ none none e = (same, refl)
+replays_same c f g same _ _ _ _ _ _ _ _ none (unreadable {lines} line r u) e = absurd (omega (arith, length_push lines line, ap length e))
+replays_same c f g same _ _ _ _ _ _ _ _ none (answered {lines} line event call next r u of step) e = absurd (omega (arith, length_push lines line, ap length e))
+replays_same c f g same _ _ _ _ _ _ _ _ (unreadable {lines} line r u) none e = absurd (omega (arith, length_push lines line, ap length e))
+replays_same c f g same _ _ _ _ _ _ _ _ (answered {lines} line event call next r u of step) none e = absurd (omega (arith, length_push lines line, ap length e))
+replays_same c f g same _ _ _ _ _ _ _ _ (unreadable line r u) (unreadable other s w) e =
+    let parts = snoc_same _ _ line other e in
+    let before = replays_same c f g same _ _ _ _ _ _ _ _ r s parts.0 in
+    (before.0, ap (λ x. x ++ unreadable_text) before.1)
+replays_same c f g same _ _ _ _ _ _ _ _ (unreadable line r u) (answered other event call next s w of step) e =
+    let parts = snoc_same _ _ line other e in absurd (none-some event (sym u ∙ (ap read_event parts.1 ∙ w)))
+replays_same c f g same _ _ _ _ _ _ _ _ (answered line event call next r u of step) (unreadable other s w) e =
+    let parts = snoc_same _ _ line other e in absurd (none-some event (sym w ∙ (ap read_event (sym parts.1) ∙ u)))
+replays_same c f g same _ _ _ _ _ _ _ _ (answered {k = k} line event call next r u of step) (answered {k = j} {out = q} other event2 call2 next2 s w of2 step2) e =
+    let parts = snoc_same _ _ line other e in
+    let before = replays_same c f g same _ _ _ _ _ _ _ _ r s parts.0 in
+    let one : event2 ≡ event = same_Some _ _ (sym w ∙ (ap read_event (sym parts.1) ∙ u)) in
+    let after = step_same k j before.0 event call call2 of (of2 ∙ ap Some one) next next2 step step2 in
+    (after.0, ap (λ x. x ++ line_text call) before.1 ∙ ap (λ x. q ++ x) after.1)
+
+-- WHOLE INPUTS
+
+prints_same : (v : Verdict) (input o q : List ℕ) → PrintedBy v input o → PrintedBy v input q → o ≡ q
+prints_same (Ok c) input o q (k, x) (j, y) =
+    x.printed ∙ (ap (λ t. limits_text (plan_told c) c ++ t) (replays_same c x.begins y.begins (starts_same c x.begins y.begins x.controller y.controller) _ _ _ _ _ _ _ _ x.replays y.replays refl).1 ∙ sym y.printed)
+prints_same (Err why) input o q x y = x ∙ sym y
+
+pub one_print : (input o q : List ℕ) → Printed input o → Printed input q → o ≡ q
+one_print input o q x y = prints_same (verdict input) input o q x y
