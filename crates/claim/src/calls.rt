@@ -1,5 +1,6 @@
 ghost use Rattle.std.specs.Prelude.{◌≡◌};
 ghost use Rattle.claim.specs.Claims.{asked_of, ClaimFor, gave_of, HandedBack};
+ghost use Rattle.controller.specs.Banks.{BankChanges};
 ghost use Rattle.controller.specs.Of.{setup_of, snapshot_of, Unchanged};
 ghost use Rattle.rules.specs.Answers.{asked, gave};
 ghost use Rattle.rules.specs.Moves.{Does};
@@ -22,6 +23,7 @@ pub fn ask<B: Bank>(
     ensures setup { setup_of B.Bank controller.new ≡ setup_of B.Bank controller.old }
     ensures does { Does (setup_of B.Bank controller.old) (snapshot_of B.Bank controller.old) (asked task resource mode (asked_of result)) (snapshot_of B.Bank controller.new) }
     ensures follows { Follows (setup_of B.Bank controller.old) (snapshot_of B.Bank controller.old) (asked task resource mode (asked_of result)) (snapshot_of B.Bank controller.new) }
+    ensures bank { BankChanges B.Bank (snapshot_of B.Bank controller.old) (asked task resource mode (asked_of result)) controller.old.bank controller.new.bank }
     ensures keeps { Unchanged result controller.old controller.new }
     ensures claim { ClaimFor task result }
 {
@@ -36,6 +38,7 @@ fn give_back<B: Bank>(
 ) -> Result<Result<u32, Refusal>, Claim>
     ensures setup { setup_of B.Bank controller.new ≡ setup_of B.Bank controller.old }
     ensures does { Does (setup_of B.Bank controller.old) (snapshot_of B.Bank controller.old) (gave claim.task (gave_of result)) (snapshot_of B.Bank controller.new) }
+    ensures bank { BankChanges B.Bank (snapshot_of B.Bank controller.old) (gave claim.task (gave_of result)) controller.old.bank controller.new.bank }
     ensures keeps { Unchanged (gave_of result) controller.old controller.new }
     ensures claim { HandedBack claim ((snapshot_of B.Bank controller.old).tasks claim.task).state result }
 {
@@ -56,6 +59,7 @@ pub fn give<B: Bank>(
     ensures setup { setup_of B.Bank controller.new ≡ setup_of B.Bank controller.old }
     ensures does { Does (setup_of B.Bank controller.old) (snapshot_of B.Bank controller.old) (gave claim.task (gave_of result)) (snapshot_of B.Bank controller.new) }
     ensures follows { Follows (setup_of B.Bank controller.old) (snapshot_of B.Bank controller.old) (gave claim.task (gave_of result)) (snapshot_of B.Bank controller.new) }
+    ensures bank { BankChanges B.Bank (snapshot_of B.Bank controller.old) (gave claim.task (gave_of result)) controller.old.bank controller.new.bank }
     ensures keeps { Unchanged (gave_of result) controller.old controller.new }
     ensures claim { HandedBack claim ((snapshot_of B.Bank controller.old).tasks claim.task).state result }
 {
