@@ -56,8 +56,9 @@ impl<B: Bank> Controller<B> {
         self.bank.leave(wanted.resource, task)?;
         let mut rows = self.table.rows;
         rows[t] = in_state(job, State::Going);
-        let rows = let_in_all(&self.bank, wanted.resource, self.tasks, &rows);
-        self.table = Records { rows };
+        self.table = Records {
+            rows: let_in_all(&self.bank, wanted.resource, self.tasks, &rows),
+        };
         Ok(job.used)
     }
 
