@@ -52,7 +52,12 @@ impl<B: Bank> Controller<B> {
         let wanted = wanted_of(job.state);
         self.bank.leave(wanted.resource, task)?;
         self.table.rows[t] = in_state(job, State::Going);
-        let_in_all(&self.bank, wanted.resource, self.tasks, &mut self.table.rows);
+        let_in_all(
+            &self.bank,
+            wanted.resource,
+            self.tasks,
+            &mut self.table.rows,
+        );
         Ok(job.used)
     }
 
