@@ -2,6 +2,7 @@ ghost use Rattle.std.specs.Prelude.{◌≡◌, true, false};
 
 /// A claim on what a task asked for. It can only be given back.
 // `Drop` asks for what no claim has, so that a forgotten claim is refused by the prover, and not only by the check of moves.
+#[derive(Debug, PartialEq, Eq)]
 pub struct Claim {
     task: u32,
     spent: bool,

@@ -1,18 +1,15 @@
 -- The answers of the calls, from what was done to the bank.
-use Rattle.std.proofs.Common.{◌≡◌, ℕ, Bool, cond, [], Some, None, Ok, Err, sym, ap, ◌∙◌}
+use Rattle.std.proofs.Common.{◌≡◌, ℕ, Bool, cond, [], None, Ok, Err, sym, ap, ◌∙◌}
 use Rattle.bank.specs.Meaning.{Lists}
-use Rattle.bank.specs.Questions.{leave_questions, number as bank_number}
 use Rattle.bank.specs.declared.meaning.Bank.{Ghosts}
-use Rattle.bank.specs.declared.refusal.Refusal.{Refusal as BankRefusal}
 use Rattle.bank.specs.declared.request.Mode.{Mode}
 use Rattle.text.specs.Questions.{first_no}
-use Rattle.rules.specs.Answers.{asked, gave, Answered, issue_questions, resource_of}
+use Rattle.rules.specs.Answers.{asked, Answered, issue_questions}
 use Rattle.rules.specs.Jobs.{Setup, Snapshot, jobs_in, first}
-use Rattle.rules.specs.Questions.{ask_questions, give_questions}
+use Rattle.rules.specs.Questions.{ask_questions}
 use Rattle.rules.specs.declared.answer.Asked.{Asked}
 use Rattle.rules.specs.declared.answer.Asked.TheVariants.{Hold, Wait, Back}
 use Rattle.rules.specs.declared.refusal.Refusal.{Refusal}
-use Rattle.rules.specs.declared.refusal.Refusal.TheVariants.{Bank}
 use Rattle.controller.specs.Banks.{BankChanges}
 use Rattle.controller.specs.Issues.{Asks, AskChanges}
 
@@ -34,8 +31,3 @@ ask_refused a s t r m is_first why new e own done = (
   },
   done.2,
 )
-
--- the bank refuses a departure
-pub give_refused : (a : Setup) (s : Snapshot) (t r : ℕ) (why : BankRefusal) (new : Lists) → first_no (give_questions a s t) ≡ None → resource_of a s t ≡ r → first_no (leave_questions a.told r t (s.lists r)) ≡ Some (bank_number why) → new ≡ s.lists → Answered a s (gave t (Err (Bank why))) new
-give_refused a s t r why new own e refusal same =
-    (record { decided = ap (λ (x : ℕ). first_no (leave_questions a.told x t (s.lists x))) e ∙ refusal; own_first = λ f. own }, same)

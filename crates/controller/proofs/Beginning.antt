@@ -1,7 +1,7 @@
 -- How a controller begins, over a bank that fits and over one that does not.
 use Rattle.std.proofs.Common.{◌≡◌, ℕ, zero, suc, ◌<◌, ◌≤◌, Bool, true, false, cond, ◌&&◌, eqb, ltb, ◌⊎◌, length, get_or, replicate, sym, refl, ap, ◌∙◌, subst, inl, inr, ⊎_elim, arith}
 use Rattle.std.proofs.ByRecursion.{All-get_or}
-use Rattle.std.proofs.lemmas.Bool.{ltb-true, eqb-true, eq-eqb, and_from, and_parts, cases_eq}
+use Rattle.std.proofs.lemmas.Bool.{ltb-true, eq-eqb, and_from, and_parts, cases_eq}
 use Rattle.bank.specs.Meaning.{Lists, Small}
 use Rattle.bank.specs.Questions.{Told}
 use Rattle.plan.specs.Contents.{Contents, resource_count, processors}
@@ -43,9 +43,6 @@ pub fits_by : (c : Contents) (t : Told) (lists : Lists) (n : ℕ) (b : Bool) →
 fits_by c t lists n b e s m all =
     let whole = all_below (fits_at c t lists) (resource_count c) in
     all ∙ (ap (all_below (fits_at c t lists)) m ∙ sym (ap (λ x. x && (eqb t.seats (processors c) && whole)) (eq-eqb _ _ e) ∙ ap (λ x. x && whole) (eq-eqb _ _ s)))
-
-pub same_resources : (c : Contents) (t : Told) (lists : Lists) → fits c t lists ≡ true → t.resources ≡ resource_count c
-same_resources c t lists e = eqb-true _ _ (and_parts _ _ e).0
 
 begun_few : (p : Plan) (a : Setup) (lists : Lists) → a.plan ≡ plan_contents p → Fitting a lists ⊎ Unfit a lists → a.tasks ≤ length (plan_contents p).tasks
 begun_few p a lists e (inl f) = let h = f.tasks ∙ ap (λ (x : Contents). length x.tasks) e in omega arith

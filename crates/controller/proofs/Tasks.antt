@@ -1,5 +1,5 @@
 -- The records of the first n tasks, by their places.
-use Rattle.std.proofs.Common.{◌≡◌, ℕ, zero, suc, ◌<◌, ◌≤◌, Bool, true, false, cond, eqb, ltb, List, [], ◌∷◌, length, get_or, set, sym, refl, ap, ◌∙◌, subst, ⊎_elim, arith, length-set}
+use Rattle.std.proofs.Common.{◌≡◌, ℕ, zero, suc, ◌<◌, ◌≤◌, Bool, true, false, cond, eqb, ltb, List, [], ◌∷◌, length, get_or, set, sym, refl, ap, ◌∙◌, ⊎_elim, arith}
 use Rattle.std.proofs.lemmas.Bool.{cases_lt, cond-true, cond-false, lt-ltb, le-ltb, ne_eqb, eqb-true}
 use Rattle.rules.specs.States.{idle_task}
 use Rattle.rules.specs.declared.task.Task.{Task}
@@ -26,11 +26,6 @@ each_set P (y ∷ xs) zero x d px all zero = px
 each_set P (y ∷ xs) zero x d px all (suc q) = all (suc q)
 each_set P (y ∷ xs) (suc i) x d px all zero = all zero
 each_set P (y ∷ xs) (suc i) x d px all (suc q) = each_set P xs i x d px (λ k. all (suc k)) q
-
--- the table after one record is written: as many records, each blocked for no more ticks than the clock
-pub written : (rows new : List Task) (t : ℕ) (k : Task) (clock : ℕ) → length rows ≡ 64 → ((q : ℕ) → (get_or rows q idle_task).blocked ≤ clock) → new ≡ set rows t k → k.blocked ≤ clock → (length new ≡ 64) × ((q : ℕ) → (get_or new q idle_task).blocked ≤ clock)
-written rows new t k clock all few e le =
-    (ap length e ∙ (length-set rows t k ∙ all), subst (λ (ks : List Task). (q : ℕ) → (get_or ks q idle_task).blocked ≤ clock) (sym e) (each_set (λ (x : Task). x.blocked ≤ clock) rows t k idle_task le few))
 
 pub tasks_written : (n : ℕ) (rows new : List Task) (t : ℕ) (k : Task) → t < n → n ≤ 64 → length rows ≡ 64 → new ≡ set rows t k → (q : ℕ) → tasks_in n new q ≡ cond (eqb t q) k (tasks_in n rows q)
 tasks_written n rows new t k lt few all e q = ap (λ (ks : List Task). tasks_in n ks q) e ∙ tasks_set n rows t k lt (omega arith) q

@@ -23,7 +23,7 @@ fn plan_of(text: &[u8]) -> Plan {
 }
 
 // An answer as it is printed.
-#[derive(Drop)]
+#[derive(Debug, PartialEq, Eq, Drop)]
 struct Shown<T>(T);
 
 impl fmt::Display for Shown<Asked> {
@@ -76,7 +76,7 @@ fn settle(claim: Claim) -> Result<u32, Refusal> {
 }
 
 // What was answered to a task that asked with a claim and gave it back.
-#[derive(Drop)]
+#[derive(Debug, PartialEq, Eq, Drop)]
 struct Claimed {
     asked: Asked,
     ticked: Result<u32, Refusal>,

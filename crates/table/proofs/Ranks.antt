@@ -1,6 +1,6 @@
 -- The jobs before one, counted in a row and over all tasks.
 use Rattle.std.proofs.Common.{◌≡◌, ℕ, zero, suc, ◌<◌, ◌≤◌, Bool, true, false, cond, ◌&&◌, eqb, ltb, ◌⊎◌, List, length, get_or, Some, None, count_by, sym, refl, ap, ◌∙◌, inl, inr, ⊎_elim, arith}
-use Rattle.std.proofs.lemmas.Bool.{cases_lt, cases_eq, cond-false, le-ltb}
+use Rattle.std.proofs.lemmas.Bool.{cases_lt, cases_eq, cond-false, le-ltb, and_left}
 use Rattle.std.specs.Ordering.{is_lt}
 use Rattle.order.specs.Orders.{absent_last}
 use Rattle.order.specs.declared.elements.AbsentLast.{AbsentLast}
@@ -30,6 +30,9 @@ pub idle_unselected : (which : Selection) → selects which Idle ≡ false
 idle_unselected Unfinished = refl
 idle_unselected Ready = refl
 idle_unselected HeldBack = refl
+
+pub job_past : (p : Contents) (n : ℕ) (rows : List Task) (which : Selection) (g q : ℕ) → n ≤ q → job_at p n rows which g q ≡ None
+job_past p n rows which g q h = cond-false _ _ _ (and_left (selects which (tasks_in n rows q).state) _ (ap (λ (t : Task). selects which t.state) (tasks_past n rows q (inl h)) ∙ idle_unselected which))
 
 -- where nothing passes from m on
 pub count_past : (test : ℕ → Bool) (m n : ℕ) → m ≤ n → ((k : ℕ) → m ≤ k → test k ≡ false) → count_below test n ≡ count_below test m

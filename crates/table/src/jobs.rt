@@ -24,9 +24,13 @@ impl Table<'_> {
         ensures { (q : ℕ) → q < 64 → (slice_index_or result q (record { 0 = None })).0 ≡ job_at (plan_contents self.now.plan.now) self.now.tasks self.now.rows.now which cluster q }
     {
         let mut row = [AbsentLast(None); 64];
-        // a loop and not `array::from_fn`: the proof of that comes close to the limits of antt
-        for (task, place) in row.iter_mut().enumerate() {
-            *place = AbsentLast(self.job_at(which, cluster, task));
+        // by index up to the last task, and written only where a job is: `iter_mut` over every place was tried, and takes
+        // more instructions
+        for task in 0..self.tasks.min(64) {
+            let Some(job) = self.job_at(which, cluster, task) else {
+                continue;
+            };
+            row[task] = AbsentLast(Some(job));
         }
         row
     }

@@ -5,7 +5,7 @@ ghost use Rattle.table.specs.contracts.records.Records.{the_row};
 use rules::task::Task;
 
 /// The records of 64 tasks, in fixed memory: the form fixed for the controller, of which one element is lent.
-#[derive(Drop)]
+#[derive(Debug, PartialEq, Eq, Drop)]
 pub struct Records<T> {
     pub rows: [T; 64],
 }

@@ -12,7 +12,6 @@ use crate::state::{in_state, wanted_of};
 use bank::meaning::Bank;
 use rules::refusal::Refusal;
 use rules::task::{State, Task};
-use table::records::Records;
 
 // The record of a task after a departure: one that waited at the resource, and that the bank now lists as holding, holds.
 fn let_in<B: Bank>(bank: &B, resource: u32, task: u32, job: Task) -> Task
@@ -32,16 +31,14 @@ fn let_in<B: Bank>(bank: &B, resource: u32, task: u32, job: Task) -> Task
 }
 
 // The records after a departure.
-fn let_in_all<B: Bank>(bank: &B, resource: u32, tasks: usize, rows: &[Task; 64]) -> [Task; 64]
+fn let_in_all<B: Bank>(bank: &B, resource: u32, tasks: usize, rows: &mut [Task; 64])
     requires { (resource < (B.Bank.told bank.now).resources) × (tasks ≤ 64) }
-    ensures { LetsIn tasks resource (B.Bank.active bank.now resource) rows.now result }
+    ensures { LetsIn tasks resource (B.Bank.active bank.now resource) rows.old rows.new }
 {
-    let mut new = *rows;
     // the form fixed for the controller: a loop with an index over its table
     for t in 0..tasks {
-        new[t] = let_in(bank, resource, t as u32, rows[t]);
+        rows[t] = let_in(bank, resource, t as u32, rows[t]);
     }
-    new
 }
 
 impl<B: Bank> Controller<B> {
@@ -56,10 +53,13 @@ impl<B: Bank> Controller<B> {
         let job = self.table.rows[t];
         let wanted = wanted_of(job.state);
         self.bank.leave(wanted.resource, task)?;
-        let mut rows = self.table.rows;
-        rows[t] = in_state(job, State::Going);
-        let rows = let_in_all(&self.bank, wanted.resource, self.tasks, &rows);
-        self.table = Records { rows };
+        self.table.rows[t] = in_state(job, State::Going);
+        let_in_all(
+            &self.bank,
+            wanted.resource,
+            self.tasks,
+            &mut self.table.rows,
+        );
         Ok(job.used)
     }
 

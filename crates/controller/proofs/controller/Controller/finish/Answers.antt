@@ -1,8 +1,5 @@
-use Rattle.rules.proofs.Law.{follows}
-use Rattle.controller.proofs.Running.{sound_after}
+use Rattle.controller.proofs.Running.{follows_after}
 use Rattle.controller.proofs.controller.Controller.finish.Goals as goal
 
-pub returns : goal.returns
-returns g c =
-    let e = c.do_finish.ensures in
-    record { setup = e.setup; does = e.does; follows = follows _ _ _ _ (sound_after g.B.Bank g.met.B.Bank.sound c.args.self.now c.do_finish.new.self e.setup) e.does; bank = e.bank; keeps = e.keeps }
+pub returns-clause-follows : goal.returns-clause-follows
+returns-clause-follows g c = follows_after g.B.Bank c.args.self.now c.do_finish.new.self _ g.met.B.Bank.sound c.do_finish.ensures.setup c.do_finish.ensures.does

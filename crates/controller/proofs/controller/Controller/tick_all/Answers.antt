@@ -1,4 +1,4 @@
-use Rattle.std.proofs.Common.{◌≡◌, ℕ, ◌+◌, ◌<◌, ◌≤◌, Bool, true, false, ◌≢◌, List, length, get_or, Some, None, sym, ap, subst, ◌∙◌, inl, ⊎_elim, arith, length-set, get_or-set_other, get_or-set_same, below_more}
+use Rattle.std.proofs.Common.{◌≡◌, ℕ, ◌<◌, ◌≤◌, Bool, true, List, get_or, None, sym, ap, subst, ◌∙◌, inl, ⊎_elim, arith}
 use Rattle.std.proofs.lemmas.Bool.{cases_lt}
 use Rattle.std.proofs.lemmas.Result.{err_from_is_err_and}
 use Rattle.rules.specs.Jobs.{Setup, Snapshot}
@@ -11,33 +11,12 @@ use Rattle.table.specs.Rows.{tasks_in}
 use Rattle.table.proofs.Ranks.{tasks_past}
 use Rattle.controller.specs.Of.{setup_of, snapshot_of}
 use Rattle.controller.specs.Ticks.{TicksTask}
-use Rattle.controller.proofs.Tasks.{task_here, each_set}
+use Rattle.controller.proofs.Tasks.{task_here}
 use Rattle.controller.proofs.controller.Controller.tick_all.Goals as goal
 
 -- lateness by the record of a task
 late_here : (a : Setup) (s : Snapshot) (t : ℕ) (k : Task) (b : Bool) → s.tasks t ≡ k → late_in a t k.used k.state ≡ b → late a s t ≡ b
 late_here a s t k b e h = ap (λ (x : Task). late_in a t x.used x.state) e ∙ h
-
-pub loop-t-init : goal.loop-t-init
-loop-t-init g c =
-    let self = c.args.self.now in
-    ((λ k lt. absurd (omega arith)), self.all_records, (λ k lt. absurd (omega arith)), λ k. omega (arith, self.blocked_ticks k))
-
-pub loop-t-preserved : goal.loop-t-preserved
-loop-t-preserved g c =
-    let self = c.args.self.now in
-    let a = setup_of g.B.Bank self in
-    let s = snapshot_of g.B.Bank self in
-    let t = c.loop-t.t in
-    let inv = c.loop-t.invariant in
-    let there : c.tick_task.result ≡ Some c.in_ok-rows.field-0 = grind arith in
-    let one = subst (TicksTask a t (get_or self.table.rows t idle_task) self.clock) there c.tick_task.ensures in
-    let lt : t < length c.loop-t.rows = omega arith in (
-      below_more _ _ inv.0 (late_here a s t (get_or self.table.rows t idle_task) false (task_here self.tasks self.table.rows t c.loop-t-test.true) one.0),
-      length-set _ _ _ ∙ inv.1,
-      below_more _ _ (λ k h. let ne : k ≢ t = omega arith in rw get_or-set_other (inv.2 k h)) (get_or-set_same _ _ _ _ lt ∙ one.1),
-      each_set (λ (x : Task). x.blocked ≤ self.clock + 1) c.loop-t.rows t c.in_ok-rows.field-0 idle_task one.2 inv.3,
-    )
 
 pub returns-in_err-rows : goal.returns-in_err-rows
 returns-in_err-rows g c =

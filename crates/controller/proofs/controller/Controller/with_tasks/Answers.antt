@@ -21,5 +21,5 @@ invariant_of-result g c =
       blocked_ticks = never_blocked;
     }
 
-pub returns : goal.returns
-returns g c = record { plan = refl; bank = refl; tasks = refl; resources = refl; idle = λ q. idle_all c.args.tasks q; clock = refl; releases = refl }
+pub returns-clause-idle : goal.returns-clause-idle
+returns-clause-idle g c q = idle_all c.args.tasks q
