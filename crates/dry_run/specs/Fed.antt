@@ -1,5 +1,5 @@
 -- A dry run in the middle of its input.
-use Rattle.std.specs.Prelude.{◌≡◌, ℕ, ◌+◌, ◌*◌, ◌<◌, Bool, true, false, List, [], ◌∷◌, ◌++◌, length, take, Some, None, Ok, Err, Result, ◌==◌, nat_le}
+use Rattle.std.specs.Prelude.{◌≡◌, ℕ, ◌+◌, ◌*◌, ◌<◌, Bool, true, false, List, [], ◌∷◌, ◌++◌, length, take, Some, None, Ok, Err, Option, Result, ◌==◌, nat_le}
 use Rattle.std.specs.List.{AllByRecursion}
 use Rattle.controller.specs.declared.controller.Controller.{Controller}
 use Rattle.dry_run.specs.Banks.{Banks}
@@ -57,6 +57,11 @@ Fed d input out = FedIn d.phase input out
 -- the dry run that is in a phase
 abbrev pub run_in : Phase → DryRun
 run_in phase = record { phase = phase }
+
+-- what comes behind a plan: the events of its controller, or nothing where it was refused
+abbrev pub phase_behind : Option (Controller Banks meaning) → Phase
+phase_behind None = Over
+phase_behind (Some controller) = Events controller []
 
 -- bytes stand at a place, the end is the place behind them, and nothing else changed
 abbrev pub Laid : List ℕ → ℕ → List ℕ → ℕ → List ℕ → Type 0

@@ -3,8 +3,8 @@ ghost use Rattle.byte_vec.specs.Bytes.{Appends};
 ghost use Rattle.event.specs.Lines.{read_event};
 ghost use Rattle.limits.specs.Lines.{limits_text};
 ghost use Rattle.plan.specs.Of.{plan_contents};
-ghost use Rattle.dry_run.specs.Fed.{run_in, Laid, Takes};
-ghost use Rattle.dry_run.specs.Steps.{reserve_in, reserve, line_reserve, line_size, AtLine, Waits};
+ghost use Rattle.dry_run.specs.Fed.{run_in, phase_behind, Laid, Takes};
+ghost use Rattle.dry_run.specs.Steps.{reserve, line_reserve, line_size, AtLine, Waits};
 ghost use Rattle.dry_run.specs.Made.{MadeFrom};
 ghost use Rattle.dry_run.specs.Said.{plan_told, refused_text};
 ghost use Rattle.dry_run.specs.declared.run.Phase.TheVariants.{Plan as InPlan, Events as InEvents, Over as IsOver};
@@ -35,21 +35,22 @@ fn accept(plan: &Plan, out: &mut [u8]) -> (Controller<Pair<Slots, ReadersWriters
     (Controller::new(plan, banks), end)
 }
 
-// What comes behind a plan that an empty line ended, and the end of what is printed.
-fn behind_plan(text: &[u8], out: &mut [u8]) -> (Phase, usize)
+// The controller of a plan that an empty line ended, if the plan is accepted, and the end of what is printed.
+fn behind_plan(
+    text: &[u8],
+    out: &mut [u8],
+) -> (Option<Controller<Pair<Slots, ReadersWriters>>>, usize)
     requires { 1040 ≤ length out.old }
-    ensures takes { Takes (run_in (InPlan text.now true)) (run_in result.0) (10 ∷ []) out.old 0 result.1 out.new }
-    ensures few { result.1 + reserve_in result.0 ≤ 1040 }
-    ensures waits { Waits (run_in result.0) result.1 }
+    ensures takes { Takes (run_in (InPlan text.now true)) (run_in (phase_behind result.0)) (10 ∷ []) out.old 0 result.1 out.new }
+    ensures few { result.1 ≤ 1040 }
 {
     let mut plan = Plan::new();
     match read(text, &mut plan) {
         Ok(()) => {
             let (controller, end) = accept(&plan, out);
-            let line = ByteVec::new();
-            (Phase::Events { controller, line }, end)
+            (Some(controller), end)
         }
-        Err(why) => (Phase::Over, lay_refused(out, why)),
+        Err(why) => (None, lay_refused(out, why)),
     }
 }
 
@@ -114,8 +115,14 @@ impl DryRun {
         let Phase::Plan { text, .. } = &self.phase else {
             unreachable()
         };
-        let (next, end) = behind_plan(text.as_slice(), out);
-        self.phase = next;
+        let (controller, end) = behind_plan(text.as_slice(), out);
+        self.phase = match controller {
+            Some(controller) => Phase::Events {
+                controller,
+                line: ByteVec::new(),
+            },
+            None => Phase::Over,
+        };
         end
     }
 

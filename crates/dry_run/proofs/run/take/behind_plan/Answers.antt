@@ -8,11 +8,11 @@ use Rattle.dry_run.proofs.run.take.behind_plan.Goals as goal
 pub returns-in-Ok-clause-takes : goal.returns-in-Ok-clause-takes
 returns-in-Ok-clause-takes c =
     let said = plan_contents c.read.new.into in
-    rw c.new-line.ensures (record {
+    record {
       printed = limits_text (plan_told said) said;
       laid = c.accept-controller.ensures.laid;
       law = λ i o fed. plan_accepted c.args.text.now i o fed said c.accept-controller.result.0 c.in-Ok.ensures.reads c.accept-controller.ensures.made;
-    })
+    }
 
 pub returns-in-Err-clause-takes : goal.returns-in-Err-clause-takes
 returns-in-Err-clause-takes c =
