@@ -10,7 +10,7 @@ use arrayvec::ArrayVec;
 use bank::request::{Mode, Request, Standing};
 
 /// The active requests of one resource, in order of entry.
-#[derive(Drop, Default)]
+#[derive(Debug, Default, PartialEq, Eq, Drop)]
 pub struct Line {
     pub(crate) entries: ArrayVec<Entry, 64>,
 }

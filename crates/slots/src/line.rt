@@ -34,7 +34,8 @@ impl Line {
 
     // The first place of a party, if it is active.
     pub(crate) fn find(&self, party: u8) -> Option<usize>
-        ensures place { result ≡ position (λ q. q == party) (row self.now) }
+        ensures first { result ≡ position (λ q. q == party) (row self.now) }
+        ensures place { IfSome result (λ i. (i ≡ place party (row self.now)) × (i < length (row self.now))) }
         ensures within { IfSome result (λ place. place < 64) }
     {
         self.parties.as_slice().iter().position(|q| *q == party)
