@@ -19,6 +19,7 @@ fn count_digits(s: &[u8]) -> usize
 }
 
 // The number that at most five digits write.
+#[tactic(auto, using(crate::proofs::Fronts::digit_range, std::proofs::lemmas::List::Sums::fold_more, std::proofs::lemmas::Grind::common_steps))]
 fn value(s: &[u8]) -> u32
     requires { (length s.now ≤ 5) × (((k : ℕ) → k < length s.now → is_ascii_digit (slice_index s.now k) ≡ true)) }
     ensures { result ≡ value_of s.now }
