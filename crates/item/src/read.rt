@@ -19,6 +19,7 @@ fn length(s: &[u8]) -> Option<Item>
 }
 
 // The item that a letter and what stands behind it are.
+#[tactic(auto, using(std::proofs::lemmas::Bool::Decides::nat_tests))]
 fn form(letter: u8, rest: &[u8]) -> Option<Item>
     ensures { result ≡ read_form letter rest.now }
 {
@@ -42,6 +43,7 @@ fn parse(line: &[u8]) -> Option<Item>
 
 impl Item {
     /// The item that a line is, if it has one of the five forms.
+    #[tactic(auto, using(crate::proofs::Lines::is_line_of))]
     pub fn read(line: &[u8]) -> Option<Item>
         ensures value { result ≡ read_item line.now }
         ensures image { IsLineOf line.now result }

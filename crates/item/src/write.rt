@@ -86,6 +86,7 @@ impl Item {
     }
 
     /// Writes an item's line at a place, and answers the place behind it.
+    #[tactic(auto, using(crate::proofs::Lines::read_back))]
     pub fn write(self, out: &mut [u8], at: usize) -> Result<usize, Refusal>
         ensures writes { Writes out.old at (item_text self) result out.new }
         ensures back { ReadsBack self }
