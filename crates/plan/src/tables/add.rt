@@ -206,7 +206,7 @@ impl Tables {
     pub(crate) fn take_line(&mut self, line: &[u8]) -> Result<(), Refusal>
         ensures { TakesLine line.now self.old result self.new }
     {
-        let item = Item::read(line).ok_or(Refusal::Form)?;
+        let item = Item::try_from(line)?;
         self.judge(item)?;
         self.store(item);
         Ok(())
