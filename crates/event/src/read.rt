@@ -5,7 +5,7 @@ use crate::event::Event;
 use bank::request::Mode;
 use item::field::{is_newline, read_field, read_last};
 
-// The mode that a letter is.
+// The mode that a letter is. No `TryFrom`: a crate may write it for a type of its own alone, and the mode is bank's.
 fn letter_mode(letter: u8) -> Option<Mode>
     ensures { result ≡ mode_of letter }
 {

@@ -40,6 +40,7 @@ fn lay_row<F: Fn(u32) -> Item>(out: &mut [u8], at: usize, row: &[u8], make: F) -
 }
 
 // Lays the lines of so many reader-writer resources.
+#[tactic(auto, using(text::proofs::Lays::lays_none))]
 fn lay_reader_writers(out: &mut [u8], at: usize, count: usize) -> usize
     requires { at + 35 * count < 2 ^ 64 }
     ensures few { result ≤ at + 35 * count }
@@ -113,6 +114,7 @@ fn write_text(plan: &Plan, out: &mut [u8]) -> Result<usize, Refusal>
 }
 
 /// Writes the text of a plan at the start of memory, and answers its size.
+#[tactic(auto, using(crate::proofs::Image::text_accepted))]
 pub fn write(plan: &Plan, out: &mut [u8]) -> Result<usize, Refusal>
     ensures writes { Writes out.old 0 (plan_text (plan_contents plan.now)) result out.new }
     ensures back { ReadsBack plan.now }
