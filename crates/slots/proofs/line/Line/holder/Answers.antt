@@ -12,7 +12,7 @@ returns-in_err-place-clause-holds c =
     let l = c.args.self.now in
     let p = c.args.party in
     let ps = row l in
-    let none = missing p ps (sym c.find.ensures.first ∙ c.in_err-place.was) in
+    let none = missing p ps (sym c.find.ensures.place ∙ c.in_err-place.was) in
     let not : (nat_lt (place p ps) (length ps) && nat_lt (0 + place p ps) l.slots) ≡ false = grind (arith, nat_tests) in
     ap is_some c.from_residual.ensures ∙ sym (holder_is l.slots 0 p ps ∙ not)
 
@@ -30,13 +30,15 @@ returns c =
     let p = c.args.party in
     let ps = row l in
     let i = c.in_ok-place.place in
-    let f = found p ps i (sym c.find.ensures.first ∙ c.in_ok-place.was) in
+    let f = found p ps i (sym c.find.ensures.place ∙ c.in_ok-place.was) in
     let lt = f.0 in
     let is = f.1 in
     let b = nat_lt i l.slots in
     let both : b ≡ (nat_lt (place p ps) (length ps) && nat_lt (0 + place p ps) l.slots) = grind (arith, nat_tests) in
     let P : ℕ → Type 0 = λ i. (i ≡ place p ps) × (i < length ps) in
+    let Q : ℕ → Type 0 = λ i. i < length ps in
     record {
       holds = ap is_some c.then_some.ensures ∙ (some_then b i ∙ (both ∙ sym (holder_is l.slots 0 p ps)));
       place = subst (λ o. IfSome o P) (sym c.then_some.ensures) (if_then b i P (is, omega arith));
+      here = subst (λ o. IfSome o Q) (sym c.then_some.ensures) (if_then b i Q (omega arith));
     }

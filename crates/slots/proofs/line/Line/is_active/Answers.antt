@@ -7,4 +7,4 @@ use Rattle.slots.proofs.line.Line.is_active.Goals as goal
 pub returns : goal.returns
 returns c =
     let l = c.args.self.now in
-    c.is_some.ensures ∙ (ap is_some c.find.ensures.first ∙ (some_is c.args.party (row l) ∙ sym (active_is l.slots 0 c.args.party (row l))))
+    c.is_some.ensures ∙ (ap is_some c.find.ensures.place ∙ (some_is c.args.party (row l) ∙ sym (active_is l.slots 0 c.args.party (row l))))
