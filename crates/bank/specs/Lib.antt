@@ -1,3 +1,4 @@
+pub mod Limits
 pub mod Lists
 pub mod Meaning
 pub mod Questions

@@ -2,7 +2,7 @@
 use Rattle.std.specs.Prelude.{◌≡◌, ℕ, ◌+◌, ◌-◌, ◌<◌, ◌≤◌, List, ◌∷◌, ◌++◌, length, take, drop, replicate, slice_set, slice_index, suc}
 use Rattle.std.proofs.Common.{sym, ap, ◌∙◌, arith, ⊎_elim}
 use Rattle.std.specs.List.{remove}
-use Rattle.std.proofs.lemmas.List.{length-take-le, take-append-drop, length-append, length-drop, length-set, drop-set-lt, drop-set, drop-replicate, drop-drop, get_or-take, get_or-drop, ext_get_or, take-set}
+use Rattle.std.proofs.lemmas.List.{length-take-le, take-append-drop, length-append, length-drop, length-set, drop-set, drop-replicate, drop-drop, get_or-take, get_or-drop, ext_get_or, take-set}
 use Rattle.std.proofs.lemmas.List.Edits.{length-remove, get_or-remove_below, get_or-remove_above}
 use Rattle.std.proofs.lemmas.Slice.{take-put_mid, drop-put_mid}
 use borrow.Rule.Slice.PartMut.{put_mid}
@@ -11,13 +11,6 @@ use Rattle.byte_vec.specs.Filled.{Filled}
 
 pub zeros_behind : (n : ℕ) (ps : List ℕ) (len k : ℕ) → Filled n ps len → drop (len + k) ps ≡ replicate (n - (len + k)) 0
 zeros_behind n ps len k f = sym (drop-drop k len ps) ∙ (ap (λ xs. drop k xs) f.behind ∙ (drop-replicate k (n - len) 0 ∙ ap (λ m. replicate m 0) (omega arith)))
-
-pub filled_push : (n : ℕ) (ps : List ℕ) (len b : ℕ) → Filled n ps len → len < n → Filled n (slice_set ps len b) (len + 1)
-filled_push n ps len b f l = record {
-  whole = length-set ps len b ∙ f.whole;
-  within = omega arith;
-  behind = drop-set-lt (len + 1) ps len b (omega arith) ∙ zeros_behind n ps len 1 f;
-}
 
 -- the bytes behind a place, one place further to the front, and the last place 0
 module _ (n : ℕ) (ps qs : List ℕ) (len i : ℕ) (f : Filled n ps len) (l : i < len) (long : length qs ≡ length ps) (copied : (k : ℕ) → i ≤ k → k + 1 < len → slice_index qs k ≡ slice_index ps (k + 1)) (below : (k : ℕ) → k < i → slice_index qs k ≡ slice_index ps k) (from : (k : ℕ) → len - 1 ≤ k → slice_index qs k ≡ slice_index ps k) where

@@ -5,7 +5,7 @@ ghost use Rattle.byte_vec.specs.Bytes.{Appends, Removes};
 use std::marker::Model;
 
 /// At most `N` bytes. The places behind them are 0.
-#[derive(Clone, Copy)]
+#[derive(Clone, Copy, Debug, PartialEq, Eq)]
 pub struct ByteVec<const N: usize> {
     places: [u8; N],
     len: usize,
@@ -57,26 +57,15 @@ impl<const N: usize> ByteVec<N> {
         &self.places[..self.len]
     }
 
-    // Apart from the public call, so that an edit there is refused by the contract and not at a proof.
-    fn put(&mut self, byte: u8) -> Result<(), Full>
-        ensures { Appends N self.old (byte ∷ []) result self.new }
-    {
-        if self.len == N {
-            return Err(Full);
-        }
-        self.places[self.len] = byte;
-        self.len += 1;
-        Ok(())
-    }
-
     /// One byte more.
     pub fn push(&mut self, byte: u8) -> Result<(), Full>
         ensures { Appends N self.old (byte ∷ []) result self.new }
     {
-        self.put(byte)
+        self.extend_from_slice(&[byte])
     }
 
     /// More bytes.
+    #[tactic(auto, using(crate::proofs::Filling::filled_more))]
     pub fn extend_from_slice(&mut self, bytes: &[u8]) -> Result<(), Full>
         ensures { Appends N self.old bytes.now result self.new }
     {

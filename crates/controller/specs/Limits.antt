@@ -1,5 +1,6 @@
 -- What a controller tells of itself.
-use Rattle.std.specs.Prelude.{◌≡◌, ℕ, ◌-◌, ◌*◌, false, Some, None, Ok, Err, Option, Result}
+use Rattle.std.specs.Prelude.{◌≡◌, ℕ, ◌-◌, false, Some, None, Ok, Err, Option, Result}
+use Rattle.bank.specs.Limits.{ticks_of_turns}
 use Rattle.bank.specs.declared.request.Mode.{Mode}
 use Rattle.plan.specs.Contents.{longest_at}
 use Rattle.text.specs.Questions.{first_no}
@@ -17,7 +18,7 @@ TellsTurns a r m (Err why) = (first_no (limit_questions a r m) ≡ Some (number 
 
 -- the most ticks for which a request waits: the turn limit of its mode, times the longest length at the resource
 abbrev pub TellsLimit : Setup → ℕ → Mode → Result ℕ Refusal → Type 0
-TellsLimit a r m (Ok n) = (first_no (limit_questions a r m) ≡ None) × (n ≡ a.told.limit r m * longest_at a.plan r)
+TellsLimit a r m (Ok n) = (first_no (limit_questions a r m) ≡ None) × (n ≡ ticks_of_turns (a.told.limit r m) (longest_at a.plan r))
 TellsLimit a r m (Err why) = (first_no (limit_questions a r m) ≡ Some (number why)) × (from_bank why ≡ false)
 
 -- the ticks that a holder has left

@@ -10,7 +10,7 @@ use table::records::Records;
 use table::table::Table;
 
 /// A controller over a bank. Where the bank fits the plan it has the plan's tasks and resources, and else none.
-#[derive(Drop)]
+#[derive(Debug, PartialEq, Eq, Drop)]
 pub struct Controller<B: Bank> {
     plan: Plan,
     tasks: usize,

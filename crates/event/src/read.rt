@@ -5,7 +5,7 @@ use crate::event::Event;
 use bank::request::Mode;
 use item::field::{is_newline, read_field, read_last};
 
-// The mode that a letter is.
+// The mode that a letter is. No `TryFrom`: a crate may write it for a type of its own alone, and the mode is bank's.
 fn letter_mode(letter: u8) -> Option<Mode>
     ensures { result ≡ mode_of letter }
 {
@@ -41,6 +41,7 @@ fn ask(s: &[u8]) -> Option<Event>
 }
 
 // The event that a letter and what stands behind it are.
+#[tactic(auto, using(std::proofs::lemmas::Bool::Decides::nat_tests))]
 fn form(letter: u8, rest: &[u8]) -> Option<Event>
     ensures { result ≡ read_form letter rest.now }
 {
@@ -64,6 +65,8 @@ fn parse(line: &[u8]) -> Option<Event>
 
 impl Event {
     /// The event that a line with its newline is, if it has one of the five forms.
+    // `TryFrom` is no plainer: a line is no event in one way alone, so its error would be a type that says nothing.
+    #[tactic(auto, using(crate::proofs::Lines::is_line_of))]
     pub fn read(line: &[u8]) -> Option<Event>
         ensures value { result ≡ read_event line.now }
         ensures image { IsLineOf line.now result }

@@ -25,7 +25,7 @@ fn push_bytes(line: &mut ByteVec<64>, bytes: &[u8])
 }
 
 // A number and the bytes behind it, for which there is room.
-#[tactic(auto, using(item::proofs::Sizes::number_size))]
+#[tactic(auto, using(item::proofs::Sizes::number_size, std::proofs::lemmas::Grind::common_steps))]
 fn push_number(line: &mut ByteVec<64>, n: u32, behind: &[u8])
     requires { length line.old + 10 + length behind.now ≤ 64 }
     ensures text { line.new ≡ line.old ++ (decimal n ++ behind.now) }
@@ -73,6 +73,7 @@ fn push_event(line: &mut ByteVec<64>, event: Event)
 }
 
 // A refusal: its number, and the task that it names, if it names one.
+#[tactic(auto, using(crate::proofs::Sizes::late_size))]
 fn push_refused(line: &mut ByteVec<64>, why: Why)
     requires { length line.old ≤ 37 }
     ensures text { line.new ≡ line.old ++ refused_text why }

@@ -1,8 +1,10 @@
-ghost use Rattle.std.specs.Prelude.{◌≡◌};
+ghost use Rattle.std.specs.Prelude.{◌≡◌, Some, None, Ok, Err, IfErr};
+ghost use Rattle.text.specs.declared.refusal.Refusal.TheVariants.{Form};
 ghost use Rattle.item.specs.Lines.{read_three, read_form, read_item, IsLineOf};
 
 use crate::field::{is_newline, read_field, read_last};
 use crate::item::Item;
+use text::refusal::Refusal;
 
 // The three numbers of a length behind its letter.
 fn length(s: &[u8]) -> Option<Item>
@@ -19,6 +21,7 @@ fn length(s: &[u8]) -> Option<Item>
 }
 
 // The item that a letter and what stands behind it are.
+#[tactic(auto, using(std::proofs::lemmas::Bool::Decides::nat_tests))]
 fn form(letter: u8, rest: &[u8]) -> Option<Item>
     ensures { result ≡ read_form letter rest.now }
 {
@@ -32,20 +35,24 @@ fn form(letter: u8, rest: &[u8]) -> Option<Item>
     }
 }
 
-// The item that a line is.
-fn parse(line: &[u8]) -> Option<Item>
-    ensures { result ≡ read_item line.now }
-{
-    let (letter, rest) = line.split_first()?;
-    form(*letter, rest)
+impl TryFrom<&[u8]> for Item {
+    type Error = Refusal;
+
+    ghost try_from_gives = { λ line r. read_item line.now ≡ elim r [ Ok i ↦ Some i | Err why ↦ None ] × IfErr r (λ why. why ≡ Form) };
+
+    fn try_from(line: &[u8]) -> Result<Item, Refusal> {
+        let (letter, rest) = line.split_first().ok_or(Refusal::Form)?;
+        form(*letter, rest).ok_or(Refusal::Form)
+    }
 }
 
 impl Item {
     /// The item that a line is, if it has one of the five forms.
+    #[tactic(auto, using(crate::proofs::Lines::is_line_of))]
     pub fn read(line: &[u8]) -> Option<Item>
         ensures value { result ≡ read_item line.now }
         ensures image { IsLineOf line.now result }
     {
-        parse(line)
+        Item::try_from(line).ok()
     }
 }

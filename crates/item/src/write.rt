@@ -1,52 +1,97 @@
-ghost use Rattle.std.specs.Prelude.{◌≡◌, ◌≤◌, ◌++◌, length};
-ghost use Rattle.byte_vec.specs.Bytes.{Pushes};
+ghost use Rattle.std.specs.Prelude.{◌≡◌, ◌+◌, ◌≤◌, [], ◌∷◌, ◌++◌, length, drop, decimal};
 ghost use Rattle.text.specs.Memory.{Writes};
-ghost use Rattle.item.specs.declared.item.Item.TheVariants.{Length};
-ghost use Rattle.item.specs.Lines.{ending, item_text, ReadsBack};
+ghost use Rattle.item.specs.Lines.{ending, followed, item_text, ReadsBack};
 
 use crate::item::Item;
 use byte_vec::byte_vec::{ByteVec, Full};
+use itoa::write_digits;
 use text::memory::write_bytes;
-use text::number::push_field;
 use text::refusal::Refusal;
 
-// A letter with its comma, a number and the newline.
-#[tactic(auto, using(crate::proofs::Sizes::ending_size))]
-fn push_one(line: &mut ByteVec<40>, letter: &[u8], n: u32) -> Result<(), Full>
-    ensures text { Pushes 40 line.old (letter.now ++ ending n) result line.new }
-    ensures few { length (ending n) ≤ 11 }
+// A byte in front of what stands from `end` on.
+#[tactic(auto, using(crate::proofs::Fronts::put_front))]
+fn put_byte(places: &mut [u8; 40], end: usize, byte: u8) -> usize
+    requires { (1 ≤ end) × (end ≤ 40) }
+    ensures text { drop result places.new ≡ byte ∷ drop end places.old }
+    ensures place { result + 1 ≡ end }
 {
-    line.extend_from_slice(letter)?;
-    push_field(line, n as u64, b"\n")
+    places[end - 1] = byte;
+    end - 1
 }
 
-// The line of a length.
-#[tactic(auto, using(crate::proofs::Sizes::length_size))]
-fn push_length(line: &mut ByteVec<40>, task: u32, resource: u32, ticks: u32) -> Result<(), Full>
-    ensures text { Pushes 40 line.old (item_text (Length task resource ticks)) result line.new }
-    ensures few { length (item_text (Length task resource ticks)) ≤ 35 }
+// A number in front of what stands from `end` on.
+#[tactic(auto, using(crate::proofs::Sizes::number_size))]
+fn put_number(places: &mut [u8; 40], end: usize, n: u32) -> usize
+    requires { (10 ≤ end) × (end ≤ 40) }
+    ensures text { drop result places.new ≡ decimal n ++ drop end places.old }
+    ensures few { (end ≤ result + 10) × (result ≤ end) }
 {
-    line.extend_from_slice(b"L,")?;
-    push_field(line, task as u64, b",")?;
-    push_field(line, resource as u64, b",")?;
-    push_field(line, ticks as u64, b"\n")
+    write_digits(n as u64, places, end)
 }
 
-// The line of an item, as far as there is room.
-fn push(line: &mut ByteVec<40>, item: Item) -> Result<(), Full>
-    ensures text { Pushes 40 line.old (item_text item) result line.new }
-    ensures few { length (item_text item) ≤ 35 }
+// A number and its comma, in front of what stands from `end` on.
+fn put_field(places: &mut [u8; 40], end: usize, n: u32) -> usize
+    requires { (11 ≤ end) × (end ≤ 40) }
+    ensures text { drop result places.new ≡ followed n (drop end places.old) }
+    ensures few { (end ≤ result + 11) × (result ≤ end) }
+{
+    let comma = put_byte(places, end, b',');
+    put_number(places, comma, n)
+}
+
+// A letter and its comma, in front of what stands from `end` on.
+fn put_letter(places: &mut [u8; 40], end: usize, letter: u8) -> usize
+    requires { (2 ≤ end) × (end ≤ 40) }
+    ensures text { drop result places.new ≡ letter ∷ (44 ∷ drop end places.old) }
+    ensures place { result + 2 ≡ end }
+{
+    let comma = put_byte(places, end, b',');
+    put_byte(places, comma, letter)
+}
+
+// The newline, at the end of the places.
+#[tactic(auto, using(std::proofs::lemmas::List::drop_all))]
+fn put_newline(places: &mut [u8; 40]) -> usize
+    ensures text { drop result places.new ≡ 10 ∷ [] }
+    ensures place { result ≡ 39 }
+{
+    put_byte(places, 40, b'\n')
+}
+
+// A letter with its comma, a number and the newline, at the end of the places.
+fn put_one(places: &mut [u8; 40], letter: u8, n: u32) -> usize
+    ensures text { drop result places.new ≡ letter ∷ (44 ∷ ending n) }
+    ensures few { (5 ≤ result) × (result ≤ 40) }
+{
+    let newline = put_newline(places);
+    let number = put_number(places, newline, n);
+    put_letter(places, number, letter)
+}
+
+// The line of an item at the end of the places, made from its last byte to its first; the answer is where it starts.
+fn put(places: &mut [u8; 40], item: Item) -> usize
+    ensures text { drop result places.new ≡ item_text item }
+    ensures few { (5 ≤ result) × (result ≤ 40) }
 {
     match item {
-        Item::Cluster(c) => push_one(line, b"C,", c),
-        Item::Slots(k) => push_one(line, b"S,", k),
-        Item::ReaderWriter => line.extend_from_slice(b"W\n"),
-        Item::Task(g) => push_one(line, b"T,", g),
+        Item::Cluster(c) => put_one(places, b'C', c),
+        Item::Slots(k) => put_one(places, b'S', k),
+        Item::ReaderWriter => {
+            let newline = put_newline(places);
+            put_byte(places, newline, b'W')
+        }
+        Item::Task(g) => put_one(places, b'T', g),
         Item::Length {
             task,
             resource,
             ticks,
-        } => push_length(line, task, resource, ticks),
+        } => {
+            let newline = put_newline(places);
+            let third = put_number(places, newline, ticks);
+            let second = put_field(places, third, resource);
+            let first = put_field(places, second, task);
+            put_letter(places, first, b'L')
+        }
     }
 }
 
@@ -55,8 +100,10 @@ fn line(item: Item) -> ByteVec<40>
     ensures text { result ≡ item_text item }
     ensures few { length (item_text item) ≤ 35 }
 {
+    let mut places = [0; 40];
+    let start = put(&mut places, item);
     let mut line = ByteVec::new();
-    match push(&mut line, item) {
+    match line.extend_from_slice(&places[start..]) {
         Ok(()) => line,
         Err(Full) => unreachable(),
     }
@@ -86,6 +133,7 @@ impl Item {
     }
 
     /// Writes an item's line at a place, and answers the place behind it.
+    #[tactic(auto, using(crate::proofs::Lines::read_back))]
     pub fn write(self, out: &mut [u8], at: usize) -> Result<usize, Refusal>
         ensures writes { Writes out.old at (item_text self) result out.new }
         ensures back { ReadsBack self }

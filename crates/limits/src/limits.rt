@@ -5,6 +5,7 @@ ghost use Rattle.text.specs.Memory.{Writes};
 ghost use Rattle.limits.specs.Lines.{wait_limit, line_of, limits_text};
 
 use crate::line::push_line;
+use bank::limit::ticks_of_turns;
 use bank::meaning::Bank;
 use bank::request::Mode;
 use byte_vec::byte_vec::{ByteVec, Full};
@@ -20,10 +21,11 @@ fn wait_limit<B: Bank>(plan: &Plan, bank: &B, resource: u32, mode: Mode) -> Opti
 {
     let turns = bank.turn_limit(resource, mode).ok()?;
     let longest = plan.longest(resource as usize).unwrap_or(0);
-    Some(turns as u64 * longest as u64)
+    Some(ticks_of_turns(turns, longest))
 }
 
 // The line of a resource, behind those before it.
+#[tactic(auto, using(crate::proofs::Sizes::line_size))]
 fn push_resource<B: Bank>(text: &mut ByteVec<1040>, plan: &Plan, bank: &B, resource: u32)
     requires { (resource < (B.Bank.told bank.now).resources) × (length text.old + 65 ≤ 1040) }
     ensures text { text.new ≡ text.old ++ line_of (B.Bank.told bank.now) (plan_contents plan.now) resource }

@@ -9,14 +9,14 @@ use bank::refusal::Refusal;
 use bank::request::{Mode, Request};
 
 /// Two banks as one: the first's resources, followed by the second's.
-#[derive(Drop)]
+#[derive(Debug, PartialEq, Eq, Drop)]
 pub struct Pair<A: Bank, B: Bank> {
     pub first: A,
     pub second: B,
 }
 
 // A resource of a pair: the bank that it is of, and its number there.
-#[derive(Clone, Copy)]
+#[derive(Clone, Copy, Debug, PartialEq, Eq)]
 enum Half {
     First(u32),
     Second(u32),

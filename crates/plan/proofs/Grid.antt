@@ -1,5 +1,5 @@
 -- The table of lengths and the row of declared lengths.
-use Rattle.std.proofs.Common.{◌≡◌, ℕ, zero, suc, ◌+◌, ◌-◌, ◌*◌, ◌/◌, ◌%◌, ◌<◌, ◌≤◌, true, false, cond, ◌&&◌, eqb, ◌⊎◌, List, [], ◌∷◌, ◌++◌, length, get_or, take, set, Some, None, Option, unwrap_or, sym, refl, ap, ◌∙◌, inl, inr, ⊎_elim, add-zero, zero-add, arith}
+use Rattle.std.proofs.Common.{◌≡◌, ℕ, zero, suc, ◌+◌, ◌-◌, ◌*◌, ◌/◌, ◌%◌, ◌<◌, ◌≤◌, ◌≢◌, true, false, cond, ◌&&◌, eqb, ◌⊎◌, List, [], ◌∷◌, ◌++◌, length, get_or, take, set, Some, None, Option, unwrap_or, sym, refl, ap, ◌∙◌, inl, inr, ⊎_elim, add-zero, zero-add, arith}
 use Rattle.std.specs.List.{AllByRecursion}
 use Rattle.std.proofs.ByRecursion.{all-has, has_append_right, has_get_or}
 use Rattle.std.proofs.lemmas.List.{ext_get_or}
@@ -76,12 +76,19 @@ above_last xs n t r some behind ended =
     (λ (b : below (placed (n - 1) 0) t r ≡ false). above_none 0 xs (n - 1) t r ended (rw zero-add b) ∙ sym b)
     (cases_Bool (below (placed (n - 1) 0) t r))
 
+pub above_ended : (xs : List ℕ) (n t r : ℕ) → n ≢ 0 → ((k : ℕ) → n ≤ k → get_or xs k 0 ≡ 0) → (0 < n → 0 < get_or xs (n - 1) 0) → below (placed (n - 1) 0) t r ≡ above (declared 0 xs) t r
+above_ended xs n t r some behind ended = sym (above_last xs n t r (omega arith) behind (ended (omega arith)))
+
 -- the place of a task and a resource
 pub placed_at : (t r n : ℕ) → r < 16 → placed (0 + (t * 16 + r)) n ≡ record { task = t; resource = r; ticks = n }
 placed_at t r n l =
     let a : (0 + (t * 16 + r)) / 16 ≡ t = omega arith in
     let b : (0 + (t * 16 + r)) % 16 ≡ r = omega arith in
     λ i. record { task = a i; resource = b i; ticks = n }
+
+-- the same of a length stored at the place of its task and resource
+pub declared_stored : (xs : List ℕ) (t r n : ℕ) → r < 16 → t * 16 + r < length xs → ((j : ℕ) → t * 16 + r ≤ j → get_or xs j 0 ≡ 0) → 0 < n → declared 0 (set xs (t * 16 + r) n) ≡ declared 0 xs ++ (record { task = t; resource = r; ticks = n } ∷ [])
+declared_stored xs t r n small l behind some = declared_set 0 xs (t * 16 + r) n l behind some ∙ ap (λ d. declared 0 xs ++ (d ∷ [])) (placed_at t r n small)
 
 -- what stands above all lengths has its place behind them
 pub above_behind : (xs : List ℕ) (n t r : ℕ) → ((k : ℕ) → n ≤ k → get_or xs k 0 ≡ 0) → (0 < n → 0 < get_or xs (n - 1) 0) → above (declared 0 xs) t r ≡ true → n ≤ t * 16 + r

@@ -8,6 +8,7 @@ use text::refusal::Refusal;
 /// A plan in the making. Its tables lie in a place that is lent at each call; the draft counts the lines taken.
 /// It is moved from call to call, ends in a sealed plan or is discarded, and is not let go otherwise.
 // `Drop` asks for what no draft has, so that a forgotten draft is refused by the prover, and not only by the check of moves.
+#[derive(Debug, PartialEq, Eq)]
 pub struct Draft {
     lines: usize,
     ended: bool,

@@ -3,7 +3,7 @@ ghost use Rattle.std.specs.Prelude.{◌+◌, ◌<◌, length};
 use crate::tables::Tables;
 
 /// A sealed plan: its tables keep their limits, and it has a cluster, a resource and a task.
-#[derive(Clone, Copy)]
+#[derive(Clone, Copy, Debug, PartialEq, Eq)]
 pub struct Plan {
     pub(crate) tables: Tables,
     ghost has_cluster: { 0 < length tables.clusters },

@@ -4,7 +4,7 @@ ghost use Rattle.plan.specs.Limits.{Holds, Between, Declares, EndsDeclared};
 use byte_vec::byte_vec::ByteVec;
 
 /// The tables of a plan or of a draft. Equal tables are equal values.
-#[derive(Clone, Copy)]
+#[derive(Clone, Copy, Debug, PartialEq, Eq)]
 pub struct Tables {
     pub(crate) clusters: ByteVec<8>,
     pub(crate) slots: ByteVec<16>,

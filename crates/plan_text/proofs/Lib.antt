@@ -1,4 +1,5 @@
 pub mod Image
 pub mod Items
 pub mod Reading
+pub mod Sizes
 pub mod Writing

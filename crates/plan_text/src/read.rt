@@ -6,6 +6,7 @@ use plan::tables::Tables;
 use text::line::first_line;
 
 // Takes the lines of a text one by one, and seals.
+#[tactic(auto, using(crate::proofs::Reading::line_taken, crate::proofs::Reading::line_refused, crate::proofs::Reading::cut_lines, std::proofs::lemmas::Bool::Decides::nat_tests, std::proofs::lemmas::Grind::common_steps))]
 fn take_text(text: &[u8], into: &mut Plan) -> Result<(), Refused>
     ensures { ReadsText text.now into.old result into.new }
 {
@@ -34,6 +35,7 @@ fn take_text(text: &[u8], into: &mut Plan) -> Result<(), Refused>
 }
 
 /// Reads a whole text into the place of a plan, or refuses it at a line and leaves the place as it was.
+#[tactic(auto, using(crate::proofs::Image::is_text_of))]
 pub fn read(text: &[u8], into: &mut Plan) -> Result<(), Refused>
     ensures reads { ReadsText text.now into.old result into.new }
     ensures image { IsTextOf text.now result into.new }

@@ -40,6 +40,7 @@ fn lay_row<F: Fn(u32) -> Item>(out: &mut [u8], at: usize, row: &[u8], make: F) -
 }
 
 // Lays the lines of so many reader-writer resources.
+#[tactic(auto, using(text::proofs::Lays::lays_none))]
 fn lay_reader_writers(out: &mut [u8], at: usize, count: usize) -> usize
     requires { at + 35 * count < 2 ^ 64 }
     ensures few { result ≤ at + 35 * count }
@@ -98,18 +99,22 @@ fn lay_plan(plan: &Plan, out: &mut [u8]) -> usize
     lay_lengths(plan, out, lengths)
 }
 
-// Writes the whole text where it fits.
+// No plan's text is longer: 1,112 lines of at most 14 bytes.
+const MOST: usize = 15568;
+
+// Writes the whole text where it fits; memory in which each plan's text fits asks for no measuring.
+#[tactic(auto, using(crate::proofs::Sizes::plan_size))]
 fn write_text(plan: &Plan, out: &mut [u8]) -> Result<usize, Refusal>
     ensures { Writes out.old 0 (plan_text (plan_contents plan.now)) result out.new }
 {
-    let mut none: [u8; 0] = [];
-    if out.len() < lay_plan(plan, &mut none) {
+    if out.len() < MOST && out.len() < lay_plan(plan, &mut []) {
         return Err(Refusal::Memory);
     }
     Ok(lay_plan(plan, out))
 }
 
 /// Writes the text of a plan at the start of memory, and answers its size.
+#[tactic(auto, using(crate::proofs::Image::text_accepted))]
 pub fn write(plan: &Plan, out: &mut [u8]) -> Result<usize, Refusal>
     ensures writes { Writes out.old 0 (plan_text (plan_contents plan.now)) result out.new }
     ensures back { ReadsBack plan.now }

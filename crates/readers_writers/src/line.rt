@@ -10,7 +10,7 @@ use arrayvec::ArrayVec;
 use bank::request::{Mode, Request, Standing};
 
 /// The active requests of one resource, in order of entry.
-#[derive(Drop, Default)]
+#[derive(Debug, Default, PartialEq, Eq, Drop)]
 pub struct Line {
     pub(crate) entries: ArrayVec<Entry, 64>,
 }
@@ -52,6 +52,7 @@ impl Line {
     }
 
     // Whether a request of this mode holds at once.
+    #[tactic(auto, using(crate::specs::PlacesLemmas::nobody))]
     fn admits(&self, mode: Mode) -> bool
         ensures { result ≡ admits (list_of self.now) mode }
     {
@@ -119,6 +120,7 @@ impl Line {
     }
 
     /// How many are active.
+    #[tactic(auto, using(crate::specs::PlacesLemmas::length_requests))]
     pub(crate) fn active(&self) -> u32
         ensures { result ≡ length (requests (list_of self.now)) }
     {
@@ -169,6 +171,7 @@ impl Line {
     }
 
     /// The request of a party, if it has one.
+    #[tactic(auto, using(crate::proofs::Positions::found, crate::specs::PlacesLemmas::request_of_lem))]
     pub(crate) fn request_of(&self, party: u8) -> Option<Request>
         ensures { result ≡ request_of party (requests (list_of self.now)) }
     {

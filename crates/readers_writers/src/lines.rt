@@ -4,7 +4,7 @@ ghost use Rattle.readers_writers.specs.Of.{AllKeep};
 use crate::line::Line;
 
 /// Reader-writer resources, with so many seats at each.
-#[derive(Drop)]
+#[derive(Debug, PartialEq, Eq, Drop)]
 pub struct ReadersWriters {
     // fixed memory: a line for each of the most resources, of which `count` are in use
     pub(crate) lines: [Line; 16],

@@ -8,7 +8,7 @@ use bank::request::{Mode, Request, Standing};
 use byte_vec::byte_vec::ByteVec;
 
 /// A resource with so many slots, and its parties in order of entry.
-#[derive(Clone, Copy)]
+#[derive(Clone, Copy, Debug, PartialEq, Eq)]
 pub struct Line {
     pub(crate) slots: u8,
     pub(crate) parties: ByteVec<64>,
@@ -24,6 +24,7 @@ impl Line {
     }
 
     // How many are active.
+    #[tactic(auto, using(crate::specs::Requests::length_requests))]
     pub(crate) fn size(&self) -> u32
         ensures parties { result ≡ length (row self.now) }
         ensures requests { result ≡ length (requests self.now.slots (row self.now)) }
@@ -35,6 +36,7 @@ impl Line {
     // The first place of a party, if it is active.
     pub(crate) fn find(&self, party: u8) -> Option<usize>
         ensures place { result ≡ position (λ q. q == party) (row self.now) }
+        ensures here { IfSome result (λ i. i < length (row self.now)) }
         ensures within { IfSome result (λ place. place < 64) }
     {
         self.parties.as_slice().iter().position(|q| *q == party)
@@ -51,6 +53,7 @@ impl Line {
     pub(crate) fn holder(&self, party: u8) -> Option<usize>
         ensures holds { is_some result ≡ is_holder party (requests self.now.slots (row self.now)) }
         ensures place { IfSome result (λ i. (i ≡ place party (row self.now)) × (i < length (row self.now))) }
+        ensures here { IfSome result (λ i. i < length (row self.now)) }
     {
         let place = self.find(party)?;
         (place < self.slots as usize).then_some(place)
@@ -88,6 +91,7 @@ impl Line {
     }
 
     // The request of a party, if it has one.
+    #[tactic(auto, using(crate::proofs::Places::found, crate::proofs::Places::missing, crate::specs::Requests::request_found, crate::specs::Requests::request_none))]
     pub(crate) fn request_of(&self, party: u8) -> Option<Request>
         requires { 1 ≤ self.now.slots }
         ensures { result ≡ request_of party (requests self.now.slots (row self.now)) }

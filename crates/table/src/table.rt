@@ -6,7 +6,7 @@ use plan::plan::Plan;
 use rules::task::Task;
 
 /// The records of the first `tasks` tasks of a plan; all others are idle.
-#[derive(Clone, Copy)]
+#[derive(Clone, Copy, Debug, PartialEq, Eq)]
 pub struct Table<'a> {
     pub plan: &'a Plan,
     pub tasks: usize,

@@ -18,6 +18,7 @@ fn line_size(s: &[u8]) -> usize
 }
 
 /// The first line of a text, with its newline, and the rest of the text.
+#[tactic(auto, using(crate::proofs::Lines::cuts_line))]
 pub fn first_line(s: &[u8]) -> (&[u8], &[u8])
     ensures { CutsLine s.now result.0.now result.1.now }
 {

@@ -4,6 +4,7 @@ ghost use Rattle.text.specs.Memory.{overlay, Writes};
 use crate::refusal::Refusal;
 
 // Puts bytes at a place where they fit, and answers the place behind them.
+#[tactic(auto, using(crate::proofs::Writes::overlay_part))]
 pub(crate) fn put_bytes(out: &mut [u8], at: usize, bytes: &[u8]) -> usize
     requires { at + length bytes.now ≤ length out.old }
     ensures end { result ≡ at + length bytes.now }

@@ -19,6 +19,7 @@ fn count_digits(s: &[u8]) -> usize
 }
 
 // The number that at most five digits write.
+#[tactic(auto, using(crate::proofs::Fronts::digit_range, std::proofs::lemmas::List::Sums::fold_more, std::proofs::lemmas::Grind::common_steps))]
 fn value(s: &[u8]) -> u32
     requires { (length s.now ≤ 5) × (((k : ℕ) → k < length s.now → is_ascii_digit (slice_index s.now k) ≡ true)) }
     ensures { result ≡ value_of s.now }
@@ -31,6 +32,7 @@ fn value(s: &[u8]) -> u32
 }
 
 // The number at the head of a text, and how many digits it has.
+#[tactic(auto, using(crate::proofs::Fronts::front_digits, std::proofs::lemmas::Grind::common_steps))]
 fn head_number(s: &[u8]) -> Option<(u32, usize)>
     ensures read { read_number s.now ≡ elim result [ None ↦ None | Some p ↦ Some (p.0, drop p.1 s.now) ] }
     ensures within { elim result [ None ↦ Unit {0} | Some p ↦ p.1 ≤ length s.now ] }
@@ -55,6 +57,7 @@ fn split_number(s: &[u8]) -> Option<(u32, &[u8])>
 }
 
 /// The number at the head of a text, and the rest of the text.
+#[tactic(auto, using(crate::proofs::Numbers::is_written))]
 pub fn read_number(s: &[u8]) -> Option<(u32, &[u8])>
     ensures read { read_number s.now ≡ elim result [ None ↦ None | Some p ↦ Some (p.0, p.1.now) ] }
     ensures written { IsWritten s.now (read_number s.now) }
@@ -77,6 +80,7 @@ fn put_number(out: &mut [u8], at: usize, n: u64) -> Result<usize, Refusal>
 }
 
 /// Writes a number's digits at a place, and answers the place behind them.
+#[tactic(auto, using(crate::proofs::Numbers::reads_back))]
 pub fn write_number(out: &mut [u8], at: usize, n: u64) -> Result<usize, Refusal>
     ensures writes { Writes out.old at (decimal n) result out.new }
     ensures back { ReadsBack n }
@@ -85,6 +89,7 @@ pub fn write_number(out: &mut [u8], at: usize, n: u64) -> Result<usize, Refusal>
 }
 
 /// Writes a number and the bytes behind it at a place, and answers the place behind them.
+#[tactic(auto, using(crate::proofs::Writes::overlay_more, std::proofs::lemmas::Grind::common_steps))]
 pub fn write_field(out: &mut [u8], at: usize, n: u64, behind: &[u8]) -> Result<usize, Refusal>
     ensures { Writes out.old at (decimal n ++ behind.now) result out.new }
 {

@@ -4,6 +4,7 @@ ghost use Rattle.controller.specs.Of.{setup_of, snapshot_of};
 ghost use Rattle.rules.specs.States.{is_pending};
 
 use crate::controller::Controller;
+use bank::limit::ticks_of_turns;
 use bank::meaning::Bank;
 use bank::request::Mode;
 use rules::refusal::Refusal;
@@ -28,7 +29,7 @@ impl<B: Bank> Controller<B> {
     {
         let turns = self.turns(resource, mode)?;
         let longest = self.plan.longest(resource as usize).unwrap_or(0);
-        Ok(turns as u64 * longest as u64)
+        Ok(ticks_of_turns(turns, longest))
     }
 
     /// The task of the holder that has the fewest ticks left, of equal ones the lowest, and its ticks left.

@@ -14,6 +14,7 @@ fn entry(table: &[u8], place: usize) -> Option<u8>
 }
 
 // The length that a task declares at a resource, if any.
+#[tactic(auto, using(crate::proofs::Grid::length_held, crate::proofs::Grid::length_none, std::proofs::lemmas::Bool::Decides::nat_tests))]
 fn declared_length(tables: &Tables, task: usize, resource: usize) -> Option<u16>
     ensures { result ≡ length_at (contents_of tables.now) task resource }
 {
@@ -25,6 +26,7 @@ fn declared_length(tables: &Tables, task: usize, resource: usize) -> Option<u16>
 }
 
 // The longest length declared for a resource that exists.
+#[tactic(auto, using(crate::proofs::Grid::length_held, crate::proofs::Grid::held_or_zero, std::proofs::lemmas::Grind::common_steps))]
 fn longest_length(tables: &Tables, resource: usize) -> u16
     requires { resource < 16 }
     ensures { result ≡ longest_at (contents_of tables.now) resource }

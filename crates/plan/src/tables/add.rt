@@ -45,6 +45,7 @@ impl Tables {
     }
 
     /// Tables with nothing in them.
+    #[tactic(auto, using(crate::proofs::Grid::declared_none, crate::proofs::Rows::zeros))]
     pub fn new() -> Tables
         ensures { contents_of result ≡ empty }
     {
@@ -59,6 +60,7 @@ impl Tables {
     }
 
     // Whether no length is declared.
+    #[tactic(auto, using(crate::proofs::Grid::none_declared))]
     fn no_lengths(&self) -> bool
         ensures { result ≡ none (contents_of self.now).lengths }
     {
@@ -66,6 +68,7 @@ impl Tables {
     }
 
     // Whether a length of these numbers stands above all that are declared.
+    #[tactic(auto, using(crate::proofs::Grid::above_ended, crate::proofs::Grid::declared_none))]
     fn rises(&self, task: u32, resource: u32) -> bool
         ensures { result ≡ above (contents_of self.now).lengths task resource }
     {
@@ -185,6 +188,7 @@ impl Tables {
     }
 
     // Puts an item that passed its questions at the end of its table.
+    #[tactic(auto, using(crate::proofs::Adding::passes, crate::proofs::Grid::above_behind, crate::proofs::Rows::processors_few, std::proofs::lemmas::Bool::Decides::nat_tests))]
     fn store(&mut self, item: Item)
         requires { first_no (item_questions (contents_of self.old) item) ≡ None }
         ensures { contents_of self.new ≡ added (contents_of self.old) item }
@@ -206,7 +210,7 @@ impl Tables {
     pub(crate) fn take_line(&mut self, line: &[u8]) -> Result<(), Refusal>
         ensures { TakesLine line.now self.old result self.new }
     {
-        let item = Item::read(line).ok_or(Refusal::Form)?;
+        let item = Item::try_from(line)?;
         self.judge(item)?;
         self.store(item);
         Ok(())

@@ -3,11 +3,6 @@ use Rattle.limits.specs.Lines.{limit_line}
 use Rattle.limits.proofs.Sizes.{line_size}
 use Rattle.limits.proofs.limits.push_resource.Goals as goal
 
-pub unreachable-requires : goal.unreachable-requires
-unreachable-requires g c =
-    let full : 1040 < length c.args.text.now + length (limit_line c.args.resource c.unwrap_or-write.result c.wait_limit-read.result) = c.in-Err.ensures in
-    omega (arith, full, line_size c.args.resource c.unwrap_or-write.result c.wait_limit-read.result (omega arith) (omega arith) c.wait_limit-read.ensures.few)
-
 pub returns-clause-few : goal.returns-clause-few
 returns-clause-few g c =
     let line = limit_line c.args.resource c.unwrap_or-write.result c.wait_limit-read.result in

@@ -19,10 +19,3 @@ loop-e-preserved c =
       | then-not-is_writer w ↦ w.e-items-is ∙ (ap (set ys i) (sym (cond-false (is_writer x) x (held x) (sym c.is_writer.ensures ∙ w.if-not-is_writer.true))) ∙ more)
       | else-not-is_writer w ↦ w.e-items-is ∙ (ap (set ys i) (sym (cond-true (is_writer x) x (held x) (sym c.is_writer.ensures ∙ w.if-not-is_writer.false))) ∙ more)
     ]
-
-pub returns : goal.returns
-returns c =
-    let xs = c.args.es.now in
-    let i = c.loop-e.e-index in
-    let l = c.loop-e-test.false in
-    c.loop-e.invariant ∙ (ap (λ ys. map read_held ys ++ drop i xs) (take_all i xs l) ∙ (ap (λ ys. map read_held xs ++ ys) (drop_all i xs l) ∙ (append-nil (map read_held xs) ∙ sym (reads_map xs))))

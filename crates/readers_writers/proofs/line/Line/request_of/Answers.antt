@@ -13,9 +13,3 @@ returns-in_err-place c =
     let past = place_past _ es (missing _ es (sym c.place.ensures ∙ c.in_err-place.was)) in
     let m : length (requests es) ≡ length es = length_requests _ _ 0 es in
     c.from_residual.ensures ∙ sym (request_of_lem c.args.party _ _ 0 es ∙ slice_get_past (requests es) _ (omega arith))
-
-pub returns : goal.returns
-returns c =
-    let es = list_of c.args.self.now in
-    let i = found _ es c.in_ok-place.field-0 (sym c.place.ensures ∙ c.in_ok-place.was) in
-    c.request.ensures ∙ (ap (slice_get (requests es)) i.1 ∙ sym (request_of_lem c.args.party _ _ 0 es))

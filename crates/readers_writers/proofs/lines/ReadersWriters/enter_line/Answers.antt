@@ -77,8 +77,8 @@ invariant_of-self c =
       kept = subst (λ i. AllKeep (slice_set b.lines i new) b.count b.seats) (sym is) kept;
     }
 
-pub returns : goal.returns
-returns c =
+pub returns-clause-enters : goal.returns-clause-enters
+returns-clause-enters c =
     let b = c.args.self.now in
     let r = c.args.resource in
     let p = c.args.party in
@@ -97,9 +97,4 @@ returns c =
     let list : list_of new ≡ entered es p k = c.enter.ensures.list ∙ ap (λ es. entered es p k) at_old in
     let held : c.enter.result ≡ admits es k = c.enter.ensures.holds ∙ ap (λ es. admits es k) at_old in
     let s : slice_set b.lines r new ≡ slice_set b.lines at new = ap (λ i. slice_set b.lines i new) (sym is) in
-    record {
-      told = refl;
-      enters = subst (λ ls. Enters (told_of b) r p k (Ok c.enter.result) (active_of b) (λ q. requests (entries_of ls q))) s (entering b.lines b.count b.seats r p new a low long b.kept k c.enter.result active room list held);
-      keeps = tt;
-      exact = subst (λ ls. EntersExactly r p k (Ok c.enter.result) b.lines ls) s (held, entries_set b.lines r new long ∙ list, entries_other b.lines r new);
-    }
+    subst (λ ls. Enters (told_of b) r p k (Ok c.enter.result) (active_of b) (λ q. requests (entries_of ls q))) s (entering b.lines b.count b.seats r p new a low long b.kept k c.enter.result active room list held)

@@ -49,8 +49,8 @@ invariant_of-self c =
       kept = subst (λ i. AllKeep (slice_set b.lines i new) b.count b.seats) (sym is) kept;
     }
 
-pub returns : goal.returns
-returns c =
+pub returns-clause-leaves : goal.returns-clause-leaves
+returns-clause-leaves c =
     let b = c.args.self.now in
     let r = c.args.resource in
     let p = c.args.party in
@@ -66,9 +66,22 @@ returns c =
     let holds = (found_at (holder_of p) es c.in-Some.holder found).0 in
     let list : list_of new ≡ left es p = c.leave.ensures ∙ (ap (λ es. parted es c.in-Some.holder) (line_at b.lines at r _ long is) ∙ parted_left p c.in-Some.holder es found) in
     let s : slice_set b.lines r new ≡ slice_set b.lines at new = ap (λ i. slice_set b.lines i new) (sym is) in
-    record {
-      told = refl;
-      leaves = subst (λ ls. Leaves (told_of b) r p (Ok tt) (active_of b) (λ q. requests (entries_of ls q))) s (leaving b.lines b.count b.seats r p new a low long b.kept holds list);
-      keeps = tt;
-      exact = subst (λ ls. LeavesExactly r p (Ok tt) b.lines ls) s (entries_set b.lines r new long ∙ list, entries_other b.lines r new);
-    }
+    subst (λ ls. Leaves (told_of b) r p (Ok tt) (active_of b) (λ q. requests (entries_of ls q))) s (leaving b.lines b.count b.seats r p new a low long b.kept holds list)
+
+pub returns-clause-exact : goal.returns-clause-exact
+returns-clause-exact c =
+    let b = c.args.self.now in
+    let r = c.args.resource in
+    let p = c.args.party in
+    let at = c.in_ok-at.at in
+    let is = c.in_ok-at.ensures.1 in
+    let low = c.if-party-ge64.false in
+    let a : r < b.count = omega (arith, c.in_ok-at.ensures.0) in
+    let long : r < length b.lines = omega (arith, b.long, b.few, a) in
+    let at_old = line_at b.lines at r c.index-self-at.result long is in
+    let found : position (holder_of p) (entries_of b.lines r) ≡ Some c.in-Some.holder = ap (position (holder_of p)) (sym at_old) ∙ (sym c.holder.ensures ∙ c.in-Some.is) in
+    let new = c.leave.new.self in
+    let es = entries_of b.lines r in
+    let list : list_of new ≡ left es p = c.leave.ensures ∙ (ap (λ es. parted es c.in-Some.holder) (line_at b.lines at r _ long is) ∙ parted_left p c.in-Some.holder es found) in
+    let s : slice_set b.lines r new ≡ slice_set b.lines at new = ap (λ i. slice_set b.lines i new) (sym is) in
+    subst (λ ls. LeavesExactly r p (Ok tt) b.lines ls) s (entries_set b.lines r new long ∙ list, entries_other b.lines r new)

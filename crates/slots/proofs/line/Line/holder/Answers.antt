@@ -36,7 +36,9 @@ returns c =
     let b = nat_lt i l.slots in
     let both : b ≡ (nat_lt (place p ps) (length ps) && nat_lt (0 + place p ps) l.slots) = grind (arith, nat_tests) in
     let P : ℕ → Type 0 = λ i. (i ≡ place p ps) × (i < length ps) in
+    let Q : ℕ → Type 0 = λ i. i < length ps in
     record {
       holds = ap is_some c.then_some.ensures ∙ (some_then b i ∙ (both ∙ sym (holder_is l.slots 0 p ps)));
       place = subst (λ o. IfSome o P) (sym c.then_some.ensures) (if_then b i P (is, omega arith));
+      here = subst (λ o. IfSome o Q) (sym c.then_some.ensures) (if_then b i Q (omega arith));
     }

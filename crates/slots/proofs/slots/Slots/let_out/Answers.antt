@@ -18,7 +18,7 @@ invariant_of-self c =
     let d = get_or_default s.lines at c.index-lines-at.result bare long in
     let slots : new.slots ≡ (get_or s.lines at bare).slots = c.remove.ensures.slots ∙ ap (λ (l : Line). l.slots) d in
     let n = ap (λ l. length (row l)) (get_or_default s.lines at c.index-self-at.result bare long) in
-    let there = c.in-Some.ensures.place.1 in
+    let there = c.in-Some.ensures.here in
     let gone = c.remove.ensures.row ∙ ap (λ l. remove (row l) c.in-Some.place) d in
     let one = keeping_removed s.seats c.in-Some.place (get_or s.lines at bare) new (omega arith) gone (s.kept at (omega arith)) in
     record {
