@@ -207,6 +207,7 @@ impl Answered {
     }
 
     /// Writes the printed line at a place, and answers the place behind it.
+    // Memory and place stay apart: a struct of both would promise in each contract and loop that it still lends the same memory.
     pub fn write(self, out: &mut [u8], at: usize) -> Result<usize, Refusal>
         ensures writes { Writes out.old at (line_text (call_of self)) result out.new }
         ensures few { length (line_text (call_of self)) ≤ 10 * event_size (call_of self) }

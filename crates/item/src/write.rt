@@ -1,97 +1,63 @@
-ghost use Rattle.std.specs.Prelude.{◌≡◌, ◌+◌, ◌≤◌, [], ◌∷◌, ◌++◌, length, drop, decimal};
+ghost use Rattle.std.specs.Prelude.{◌≡◌, ◌≤◌, [], ◌∷◌, length};
 ghost use Rattle.text.specs.Memory.{Writes};
-ghost use Rattle.item.specs.Lines.{ending, followed, item_text, ReadsBack};
+ghost use Rattle.item.specs.declared.item.Item.TheVariants.{Length};
+ghost use Rattle.item.specs.Lines.{ending, item_text, ReadsBack};
 
+use crate::ending::Ending;
 use crate::item::Item;
 use byte_vec::byte_vec::{ByteVec, Full};
-use itoa::write_digits;
 use text::memory::write_bytes;
 use text::refusal::Refusal;
 
-// A byte in front of what stands from `end` on.
-#[tactic(auto, using(crate::proofs::Fronts::put_front))]
-fn put_byte(places: &mut [u8; 40], end: usize, byte: u8) -> usize
-    requires { (1 ≤ end) × (end ≤ 40) }
-    ensures text { drop result places.new ≡ byte ∷ drop end places.old }
-    ensures place { result + 1 ≡ end }
+// A letter with its comma, in front of a line's end.
+fn put_letter(line: &mut Ending, letter: u8)
+    requires { length line.old ≤ 38 }
+    ensures { line.new ≡ letter ∷ (44 ∷ line.old) }
 {
-    places[end - 1] = byte;
-    end - 1
+    line.push_front(b',');
+    line.push_front(letter);
 }
 
-// A number in front of what stands from `end` on.
-#[tactic(auto, using(crate::proofs::Sizes::number_size))]
-fn put_number(places: &mut [u8; 40], end: usize, n: u32) -> usize
-    requires { (10 ≤ end) × (end ≤ 40) }
-    ensures text { drop result places.new ≡ decimal n ++ drop end places.old }
-    ensures few { (end ≤ result + 10) × (result ≤ end) }
+// A letter with its comma and a number, in front of the newline.
+fn put_one(line: &mut Ending, letter: u8, n: u32)
+    requires { line.old ≡ 10 ∷ [] }
+    ensures text { line.new ≡ letter ∷ (44 ∷ ending n) }
+    ensures few { length line.new ≤ 13 }
 {
-    write_digits(n as u64, places, end)
+    line.number(n);
+    put_letter(line, letter);
 }
 
-// A number and its comma, in front of what stands from `end` on.
-fn put_field(places: &mut [u8; 40], end: usize, n: u32) -> usize
-    requires { (11 ≤ end) × (end ≤ 40) }
-    ensures text { drop result places.new ≡ followed n (drop end places.old) }
-    ensures few { (end ≤ result + 11) × (result ≤ end) }
+// What the line of a length has in front of the newline.
+fn put_length(line: &mut Ending, task: u32, resource: u32, ticks: u32)
+    requires { line.old ≡ 10 ∷ [] }
+    ensures text { line.new ≡ item_text (Length task resource ticks) }
+    ensures few { length line.new ≤ 35 }
 {
-    let comma = put_byte(places, end, b',');
-    put_number(places, comma, n)
+    line.number(ticks);
+    line.push_front(b',');
+    line.number(resource);
+    line.push_front(b',');
+    line.number(task);
+    put_letter(line, b'L');
 }
 
-// A letter and its comma, in front of what stands from `end` on.
-fn put_letter(places: &mut [u8; 40], end: usize, letter: u8) -> usize
-    requires { (2 ≤ end) × (end ≤ 40) }
-    ensures text { drop result places.new ≡ letter ∷ (44 ∷ drop end places.old) }
-    ensures place { result + 2 ≡ end }
-{
-    let comma = put_byte(places, end, b',');
-    put_byte(places, comma, letter)
-}
-
-// The newline, at the end of the places.
-#[tactic(auto, using(std::proofs::lemmas::List::drop_all))]
-fn put_newline(places: &mut [u8; 40]) -> usize
-    ensures text { drop result places.new ≡ 10 ∷ [] }
-    ensures place { result ≡ 39 }
-{
-    put_byte(places, 40, b'\n')
-}
-
-// A letter with its comma, a number and the newline, at the end of the places.
-fn put_one(places: &mut [u8; 40], letter: u8, n: u32) -> usize
-    ensures text { drop result places.new ≡ letter ∷ (44 ∷ ending n) }
-    ensures few { (5 ≤ result) × (result ≤ 40) }
-{
-    let newline = put_newline(places);
-    let number = put_number(places, newline, n);
-    put_letter(places, number, letter)
-}
-
-// The line of an item at the end of the places, made from its last byte to its first; the answer is where it starts.
-fn put(places: &mut [u8; 40], item: Item) -> usize
-    ensures text { drop result places.new ≡ item_text item }
-    ensures few { (5 ≤ result) × (result ≤ 40) }
+// What the line of an item has in front of the newline.
+fn put(line: &mut Ending, item: Item)
+    requires { line.old ≡ 10 ∷ [] }
+    ensures text { line.new ≡ item_text item }
+    ensures few { length line.new ≤ 35 }
 {
     match item {
-        Item::Cluster(c) => put_one(places, b'C', c),
-        Item::Slots(k) => put_one(places, b'S', k),
-        Item::ReaderWriter => {
-            let newline = put_newline(places);
-            put_byte(places, newline, b'W')
-        }
-        Item::Task(g) => put_one(places, b'T', g),
+        Item::Cluster(c) => put_one(line, b'C', c),
+        Item::Slots(k) => put_one(line, b'S', k),
+        Item::ReaderWriter => line.push_front(b'W'),
+        Item::Task(g) => put_one(line, b'T', g),
         Item::Length {
             task,
             resource,
             ticks,
-        } => {
-            let newline = put_newline(places);
-            let third = put_number(places, newline, ticks);
-            let second = put_field(places, third, resource);
-            let first = put_field(places, second, task);
-            put_letter(places, first, b'L')
-        }
+        } => put_length(line, task, resource, ticks),
     }
 }
 
@@ -100,10 +66,10 @@ fn line(item: Item) -> ByteVec<40>
     ensures text { result ≡ item_text item }
     ensures few { length (item_text item) ≤ 35 }
 {
-    let mut places = [0; 40];
-    let start = put(&mut places, item);
+    let mut ending = Ending::new();
+    put(&mut ending, item);
     let mut line = ByteVec::new();
-    match line.extend_from_slice(&places[start..]) {
+    match line.extend_from_slice(ending.as_slice()) {
         Ok(()) => line,
         Err(Full) => unreachable(),
     }
@@ -133,6 +99,7 @@ impl Item {
     }
 
     /// Writes an item's line at a place, and answers the place behind it.
+    // Memory and place stay apart: a struct of both would promise in each contract and loop that it still lends the same memory.
     #[tactic(auto, using(crate::proofs::Lines::read_back))]
     pub fn write(self, out: &mut [u8], at: usize) -> Result<usize, Refusal>
         ensures writes { Writes out.old at (item_text self) result out.new }

@@ -13,6 +13,7 @@ use text::memory::write_bytes;
 use text::refusal::Refusal;
 
 // Lays the line of an item, and answers the place behind it.
+// Memory and place stay apart: a struct of both would promise in each contract and loop that it still lends the same memory.
 fn lay_item(out: &mut [u8], at: usize, item: Item) -> usize
     requires { at + 35 < 2 ^ 64 }
     ensures few { result ≤ at + 35 }
