@@ -5,7 +5,7 @@ use readers_writers::lines::ReadersWriters;
 use slots::slots::Slots;
 
 /// What a dry run reads, with what is kept of it.
-#[derive(Drop)]
+#[derive(Debug, PartialEq, Eq, Drop)]
 pub enum Phase {
     /// The plan, up to its empty line: its text so far, and whether a line begins behind it.
     Plan {
@@ -22,7 +22,7 @@ pub enum Phase {
 }
 
 /// A dry run in the middle of its input.
-#[derive(Drop)]
+#[derive(Debug, PartialEq, Eq, Drop)]
 pub struct DryRun {
     phase: Phase,
 }
