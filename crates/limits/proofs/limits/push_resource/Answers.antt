@@ -1,4 +1,4 @@
-use Rattle.std.proofs.Common.{◌≡◌, ◌++◌, ◌+◌, ◌<◌, length, ap, arith, length-append}
+use Rattle.std.proofs.Common.{◌≡◌, ◌++◌, length, ap, arith, length-append}
 use Rattle.limits.specs.Lines.{limit_line}
 use Rattle.limits.proofs.Sizes.{line_size}
 use Rattle.limits.proofs.limits.push_resource.Goals as goal

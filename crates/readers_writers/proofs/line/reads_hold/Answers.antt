@@ -1,10 +1,9 @@
-use Rattle.std.proofs.Common.{◌≡◌, ◌++◌, map, get_or, drop, set, sym, ap, ◌∙◌, append-nil, arith}
+use Rattle.std.proofs.Common.{◌≡◌, get_or, set, sym, ap, ◌∙◌, arith}
 use Rattle.std.proofs.lemmas.Bool.{cond-true, cond-false}
 use Rattle.std.proofs.lemmas.List.Edits.{map_over_more}
-use Rattle.std.proofs.lemmas.List.{take_all, drop_all, get_or_default}
+use Rattle.std.proofs.lemmas.List.{get_or_default}
 use Rattle.readers_writers.specs.Lines.{is_writer}
 use Rattle.readers_writers.specs.Places.{blank, read_held}
-use Rattle.readers_writers.specs.PlacesLemmas.{reads_map}
 use Rattle.readers_writers.specs.Some.{held}
 use Rattle.readers_writers.proofs.line.reads_hold.Goals as goal
 use Rattle.readers_writers.proofs.line.reads_hold.Goals.{then-not-is_writer, else-not-is_writer}

@@ -1,11 +1,10 @@
-use Rattle.std.proofs.Common.{◌≡◌, ◌<◌, true, false, length, nat_eq, Ok, slice_set, subst, ap, sym, refl, ◌∙◌, arith}
+use Rattle.std.proofs.Common.{◌≡◌, ◌<◌, true, false, length, nat_eq, Ok, slice_set, subst, ap, sym, ◌∙◌, arith}
 use Rattle.std.proofs.lemmas.List.{length-set}
 use Rattle.bank.specs.Meaning.{Enters}
 use Rattle.readers_writers.specs.Banks.{told_of, active_of}
 use Rattle.readers_writers.specs.Lines.{some, entered, admits, requests}
-use Rattle.readers_writers.specs.Exactly.{EntersExactly}
 use Rattle.readers_writers.specs.Of.{entries_of, list_of, AllKeep}
-use Rattle.readers_writers.specs.BanksLemmas.{enter_active, enter_seat, entering, entries_set, entries_other, keep_entered}
+use Rattle.readers_writers.specs.BanksLemmas.{enter_active, enter_seat, entering, keep_entered}
 use Rattle.readers_writers.specs.PlacesLemmas.{length_requests}
 use Rattle.readers_writers.proofs.Places.{line_at}
 use Rattle.readers_writers.proofs.lines.ReadersWriters.enter_line.Goals as goal

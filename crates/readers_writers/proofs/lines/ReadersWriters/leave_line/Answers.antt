@@ -1,4 +1,4 @@
-use Rattle.std.proofs.Common.{◌≡◌, ◌<◌, length, position, Some, None, Ok, slice_set, subst, ap, sym, refl, ◌∙◌, arith}
+use Rattle.std.proofs.Common.{◌≡◌, ◌<◌, length, position, Some, None, Ok, slice_set, subst, ap, sym, ◌∙◌, arith}
 use Rattle.std.proofs.lemmas.List.{length-set}
 use Rattle.bank.specs.Meaning.{Leaves}
 use Rattle.readers_writers.specs.Banks.{told_of, active_of}
