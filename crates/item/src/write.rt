@@ -10,7 +10,7 @@ use text::memory::write_bytes;
 use text::refusal::Refusal;
 
 // A letter with its comma, in front of a line's end.
-fn put_letter(line: &mut Ending, letter: u8)
+fn prepend_letter(line: &mut Ending, letter: u8)
     requires { length line.old ≤ 38 }
     ensures { line.new ≡ letter ∷ (44 ∷ line.old) }
 {
@@ -19,17 +19,17 @@ fn put_letter(line: &mut Ending, letter: u8)
 }
 
 // A letter with its comma and a number, in front of the newline.
-fn put_one(line: &mut Ending, letter: u8, n: u32)
+fn prepend_one(line: &mut Ending, letter: u8, n: u32)
     requires { line.old ≡ 10 ∷ [] }
     ensures text { line.new ≡ letter ∷ (44 ∷ ending n) }
     ensures few { length line.new ≤ 13 }
 {
     line.number(n);
-    put_letter(line, letter);
+    prepend_letter(line, letter);
 }
 
 // What the line of a length has in front of the newline.
-fn put_length(line: &mut Ending, task: u32, resource: u32, ticks: u32)
+fn prepend_length(line: &mut Ending, task: u32, resource: u32, ticks: u32)
     requires { line.old ≡ 10 ∷ [] }
     ensures text { line.new ≡ item_text (Length task resource ticks) }
     ensures few { length line.new ≤ 35 }
@@ -39,25 +39,25 @@ fn put_length(line: &mut Ending, task: u32, resource: u32, ticks: u32)
     line.number(resource);
     line.push_front(b',');
     line.number(task);
-    put_letter(line, b'L');
+    prepend_letter(line, b'L');
 }
 
 // What the line of an item has in front of the newline.
-fn put(line: &mut Ending, item: Item)
+fn prepend(line: &mut Ending, item: Item)
     requires { line.old ≡ 10 ∷ [] }
     ensures text { line.new ≡ item_text item }
     ensures few { length line.new ≤ 35 }
 {
     match item {
-        Item::Cluster(c) => put_one(line, b'C', c),
-        Item::Slots(k) => put_one(line, b'S', k),
+        Item::Cluster(c) => prepend_one(line, b'C', c),
+        Item::Slots(k) => prepend_one(line, b'S', k),
         Item::ReaderWriter => line.push_front(b'W'),
-        Item::Task(g) => put_one(line, b'T', g),
+        Item::Task(g) => prepend_one(line, b'T', g),
         Item::Length {
             task,
             resource,
             ticks,
-        } => put_length(line, task, resource, ticks),
+        } => prepend_length(line, task, resource, ticks),
     }
 }
 
@@ -67,7 +67,7 @@ fn line(item: Item) -> ByteVec<40>
     ensures few { length (item_text item) ≤ 35 }
 {
     let mut ending = Ending::new();
-    put(&mut ending, item);
+    prepend(&mut ending, item);
     let mut line = ByteVec::new();
     match line.extend_from_slice(ending.as_slice()) {
         Ok(()) => line,
