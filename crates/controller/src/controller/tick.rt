@@ -46,6 +46,13 @@ impl<B: Bank> Controller<B> {
         let mut rows = self.table.rows;
         // the form fixed for the controller: a loop with an index over its table
         for t in 0..self.tasks {
+            // a record that stays is not written: to write each was tried, and takes a quarter more instructions
+            if !matches!(
+                self.table.rows[t].state,
+                State::Waiting(_) | State::Holding(_)
+            ) {
+                continue;
+            }
             rows[t] = self.tick_task(t).ok_or(t as u32)?;
         }
         Ok(rows)

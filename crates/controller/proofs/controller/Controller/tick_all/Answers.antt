@@ -46,5 +46,5 @@ returns g c =
       on_time = lowest_nothing (late (setup_of g.B.Bank self) (snapshot_of g.B.Bank self)) self.tasks (λ k lt. inv.0 k (omega arith));
       all = inv.1;
       tasks = ticked_tasks self.tasks self.table.rows c.loop-t.rows (λ k lt. inv.2 k (omega arith));
-      few = inv.3;
+      few = inv.4;
     }

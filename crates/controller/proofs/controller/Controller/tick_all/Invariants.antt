@@ -10,4 +10,5 @@ invariant-loop-t g l =
     ((k : ℕ) → k < l.t → late (setup_of g.B.Bank l.self) (snapshot_of g.B.Bank l.self) k ≡ false)
     × (length l.rows ≡ 64)
     × ((k : ℕ) → k < l.t → get_or l.rows k idle_task ≡ ticked_task (get_or l.self.table.rows k idle_task))
+    × ((k : ℕ) → l.t ≤ k → get_or l.rows k idle_task ≡ get_or l.self.table.rows k idle_task)
     × ((k : ℕ) → (get_or l.rows k idle_task).blocked ≤ l.self.clock + 1)
