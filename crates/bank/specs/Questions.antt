@@ -51,6 +51,11 @@ abbrev pub Tells : {A : Type 0} → List Question → A → Result A Refusal →
 Tells questions value (Ok x) = (first_no questions ≡ None) × (x ≡ value)
 Tells questions value (Err why) = first_no questions ≡ Some (number why)
 
+-- a party is below 64, or refused
+abbrev pub IsParty : ℕ → Result (Unit {0}) Refusal → Type 0
+IsParty p (Ok done) = p < 64
+IsParty p (Err why) = (64 ≤ p) × (why ≡ NoParty)
+
 -- the place of a resource among so many, or the refusal where there is none
 abbrev pub IsIndex : ℕ → ℕ → Result ℕ Refusal → Type 0
 IsIndex count r (Ok at) = (r < count) × (at ≡ r)

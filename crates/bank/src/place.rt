@@ -1,4 +1,4 @@
-ghost use Rattle.bank.specs.Questions.{IsIndex};
+ghost use Rattle.bank.specs.Questions.{IsIndex, IsParty};
 
 use crate::refusal::Refusal;
 
@@ -11,4 +11,14 @@ pub fn index(resource: u32, count: u32) -> Result<usize, Refusal>
     } else {
         Err(Refusal::NoResource)
     }
+}
+
+/// Whether there is such a party.
+pub fn check_party(party: u32) -> Result<(), Refusal>
+    ensures { IsParty party result }
+{
+    if party >= 64 {
+        return Err(Refusal::NoParty);
+    }
+    Ok(())
 }

@@ -37,9 +37,8 @@ fn call(controller: &mut Controller<Pair<Slots, ReadersWriters>>, event: Event) 
     }
 }
 
-// The memory and the place stay two parameters, as all writers below take them: a struct would borrow the memory anew.
-
 // Lays the line of an event with its answer.
+// Memory and place stay apart, here and in `take`, as in `write_bytes` of `text`.
 fn lay_answered(answered: Answered, out: &mut [u8], at: usize) -> usize
     requires { at + 10 * event_size (call_of answered) ≤ length out.old }
     ensures laid { Laid out.old at (line_text (call_of answered)) result out.new }

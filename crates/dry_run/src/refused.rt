@@ -12,13 +12,13 @@ use text::refusal::Refusal;
 
 // The line of a refused plan, as far as there is room.
 #[tactic(auto, using(crate::proofs::Printed::refused_size))]
-fn push_refused(line: &mut ByteVec<64>, question: u32, at: usize) -> Result<(), Full>
-    ensures text { Pushes 64 line.old (refused_text question at) result line.new }
-    ensures few { length (refused_text question at) ≤ 50 }
+fn push_refused(line: &mut ByteVec<64>, question: u32, number: usize) -> Result<(), Full>
+    ensures text { Pushes 64 line.old (refused_text question number) result line.new }
+    ensures few { length (refused_text question number) ≤ 50 }
 {
     line.extend_from_slice(b"plan,no,")?;
     push_field(line, question as u64, b",")?;
-    push_field(line, at as u64, b"\n")
+    push_field(line, number as u64, b"\n")
 }
 
 // Apart from the public call, so that an edit there is refused by the contract and not at a proof.
@@ -27,10 +27,8 @@ fn line_of(why: Refused) -> ByteVec<64>
     ensures few { length result ≤ 50 }
 {
     let mut line = ByteVec::new();
-    match push_refused(&mut line, why.refusal.number(), why.line) {
-        Ok(()) => line,
-        Err(Full) => unreachable(),
-    }
+    push_refused(&mut line, why.refusal.number(), why.line).unwrap();
+    line
 }
 
 /// The line of a refused plan.

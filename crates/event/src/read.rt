@@ -55,7 +55,7 @@ fn form(letter: u8, rest: &[u8]) -> Option<Event>
     }
 }
 
-// The event that a line is.
+// Apart from the public call, so that an edit there is refused by the contract and not at a proof.
 fn parse(line: &[u8]) -> Option<Event>
     ensures { result ≡ read_event line.now }
 {

@@ -6,7 +6,7 @@ ghost use Rattle.event.specs.Lines.{event_then, event_text};
 use crate::answered::Answered;
 use crate::event::Event;
 use bank::request::Mode;
-use byte_vec::byte_vec::{ByteVec, Full};
+use byte_vec::byte_vec::ByteVec;
 use rules::answer::{Asked, Finished, Issued};
 use rules::refusal::Refusal as Why;
 use text::memory::write_bytes;
@@ -18,10 +18,7 @@ fn push_bytes(line: &mut ByteVec<64>, bytes: &[u8])
     requires { length line.old + length bytes.now ≤ 64 }
     ensures { line.new ≡ line.old ++ bytes.now }
 {
-    match line.extend_from_slice(bytes) {
-        Ok(()) => {}
-        Err(Full) => unreachable(),
-    }
+    line.extend_from_slice(bytes).unwrap();
 }
 
 // A number and the bytes behind it, for which there is room.
@@ -31,10 +28,7 @@ fn push_number(line: &mut ByteVec<64>, n: u32, behind: &[u8])
     ensures text { line.new ≡ line.old ++ (decimal n ++ behind.now) }
     ensures few { length (decimal n) ≤ 10 }
 {
-    match push_field(line, n as u64, behind) {
-        Ok(()) => {}
-        Err(Full) => unreachable(),
-    }
+    push_field(line, n as u64, behind).unwrap();
 }
 
 // An event and a comma.

@@ -5,7 +5,7 @@ ghost use Rattle.item.specs.Lines.{ending, item_text, ReadsBack};
 
 use crate::ending::Ending;
 use crate::item::Item;
-use byte_vec::byte_vec::{ByteVec, Full};
+use byte_vec::byte_vec::ByteVec;
 use text::memory::write_bytes;
 use text::refusal::Refusal;
 
@@ -69,10 +69,8 @@ fn line(item: Item) -> ByteVec<40>
     let mut ending = Ending::new();
     prepend(&mut ending, item);
     let mut line = ByteVec::new();
-    match line.extend_from_slice(ending.as_slice()) {
-        Ok(()) => line,
-        Err(Full) => unreachable(),
-    }
+    line.extend_from_slice(ending.as_slice()).unwrap();
+    line
 }
 
 // Apart from the public call, so that an edit there is refused by the contract and not at a proof.

@@ -8,7 +8,7 @@ use crate::line::push_line;
 use bank::limit::ticks_of_turns;
 use bank::meaning::Bank;
 use bank::request::Mode;
-use byte_vec::byte_vec::{ByteVec, Full};
+use byte_vec::byte_vec::ByteVec;
 use plan::plan::Plan;
 use text::memory::write_bytes;
 use text::refusal::Refusal;
@@ -33,10 +33,7 @@ fn push_resource<B: Bank>(text: &mut ByteVec<1040>, plan: &Plan, bank: &B, resou
 {
     let write = wait_limit(plan, bank, resource, Mode::Write).unwrap_or(0);
     let read = wait_limit(plan, bank, resource, Mode::Read);
-    match push_line(text, resource, write, read) {
-        Ok(()) => {}
-        Err(Full) => unreachable(),
-    }
+    push_line(text, resource, write, read).unwrap();
 }
 
 // The lines of all resources.

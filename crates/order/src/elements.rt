@@ -14,6 +14,7 @@ pub struct Job {
 
 impl Job {
     /// Whether it was released before the other job.
+    // Beside the derived order, to say it by value.
     pub fn precedes(&self, job: &Job) -> bool
         ensures { result ≡ nat_lt self.now.release job.now.release }
     {
@@ -30,6 +31,7 @@ pub struct Holder {
 
 impl Holder {
     /// Whether it has fewer ticks left than the other holder, or as many and a lower task.
+    // Beside the derived order, to say it by value.
     pub fn precedes(&self, holder: &Holder) -> bool
         ensures { result ≡ (if nat_eq self.now.left holder.now.left then nat_lt self.now.task holder.now.task else nat_lt self.now.left holder.now.left) }
     {

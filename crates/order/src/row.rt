@@ -21,6 +21,7 @@ pub fn first_of<T: Ord>(row: &[T]) -> Option<usize>
     ensures { elim result [ None ↦ length row.now ≡ 0 | Some b ↦ IsFirstBest (λ x y. is_lt (T.cmp x y)) row.now (length row.now) b ] }
 {
     let mut best = None;
+    // a loop: of equal ones the place of the first is wanted, and `min` gives an element
     for (i, x) in row.iter().enumerate() {
         match best {
             Some((_, least)) if least <= x => {}

@@ -75,7 +75,7 @@ impl Draft {
         ensures { Seals self tables.now into.old result into.new }
     {
         if tables.clusters.len() == 0
-            || tables.slots.len() + tables.reader_writers == 0
+            || tables.resources() == 0
             || tables.tasks.len() == 0
         {
             let line = self.lines.saturating_add(1);

@@ -12,6 +12,7 @@ pub struct Tables {
     pub(crate) tasks: ByteVec<64>,
     // fixed memory: a place for each task and resource, and 0 where no length is declared, since none of 0 can be
     pub(crate) lengths: [u16; 1024],
+    // how many places have been passed, so that a line in order is known without a look at the places
     pub(crate) lengths_end: usize,
     ghost few_clusters: { length clusters ≤ 8 },
     ghost clusters_sized: { Between 1 9 clusters },

@@ -5,7 +5,7 @@ use plan::plan::Plan;
 use plan::tables::Tables;
 use text::line::first_line;
 
-// Takes the lines of a text one by one, and seals.
+// Takes the lines of a text one by one, and seals. Apart from the public call, so that an edit there is refused by the contract.
 #[tactic(auto, using(crate::proofs::Reading::line_taken, crate::proofs::Reading::line_refused, crate::proofs::Reading::cut_lines, std::proofs::lemmas::Bool::Decides::nat_tests, std::proofs::lemmas::Grind::common_steps))]
 fn take_text(text: &[u8], into: &mut Plan) -> Result<(), Refused>
     ensures { ReadsText text.now into.old result into.new }

@@ -103,7 +103,8 @@ fn lay_plan(plan: &Plan, out: &mut [u8]) -> usize
 // No plan's text is longer: 1,112 lines of at most 14 bytes.
 const MOST: usize = 15568;
 
-// Writes the whole text where it fits; memory in which each plan's text fits asks for no measuring.
+// Writes the whole text where it fits; memory in which each plan's text fits asks for no measuring. Apart from the public call,
+// so that an edit there is refused by the contract.
 #[tactic(auto, using(crate::proofs::Sizes::plan_size))]
 fn write_text(plan: &Plan, out: &mut [u8]) -> Result<usize, Refusal>
     ensures { Writes out.old 0 (plan_text (plan_contents plan.now)) result out.new }

@@ -7,7 +7,7 @@ use bank::request::Mode;
 pub struct Entry {
     pub party: u8,
     pub mode: Mode,
-    // its state, beside a party and a mode that count in both
+    // a flag of its own: party and mode count whether it holds or not
     pub holds: bool,
 }
 

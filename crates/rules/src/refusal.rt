@@ -40,6 +40,7 @@ impl Refusal {
     pub fn number(self) -> u32
         ensures { result ≡ number self }
     {
+        // a match, since the numbers are the format and no derive gives them
         match self {
             Refusal::NoTask => 1,
             Refusal::NoResource => 2,

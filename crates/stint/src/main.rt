@@ -26,10 +26,8 @@ fn turn(
             return Err(e);
         }
     };
-    match run.feed(&chunk[0..n], out) {
-        Ok(size) => rt.write_all(&out[0..size])?,
-        Err(_) => unreachable(),
-    }
+    let size = run.feed(&chunk[0..n], out).unwrap();
+    rt.write_all(&out[0..size])?;
     Ok(n > 0)
 }
 
@@ -41,13 +39,12 @@ fn main(rt: HostRuntime) -> io::Result<()> {
     let mut input = rt.stdin();
     let room = chunk.as_mut_slice();
     let out = printed.as_mut_slice();
+    // a `for`, since a `loop` wants a measure, and how long the input is nobody knows
     for _ in 0..u64::MAX {
         if !turn(&rt, &mut input, &mut run, room, out)? {
             break;
         }
     }
-    match run.end(out) {
-        Ok(size) => { rt.write_all(&out[0..size]) }
-        Err(_) => unreachable(),
-    }
+    let size = run.end(out).unwrap();
+    rt.write_all(&out[0..size])
 }

@@ -33,7 +33,7 @@ impl Table<'_> {
         ensures { (q : ℕ) → q < 64 → (slice_index_or result q (record { 0 = None })).0 ≡ holder_at (plan_contents self.now.plan.now) self.now.tasks self.now.rows.now q }
     {
         let mut row = [AbsentLast(None); 64];
-        // a loop and not `array::from_fn`: the proof of that comes close to the limits of antt
+        // apart from the rows of jobs: one function for both would take a closure, and say at each call what it gives
         for (task, place) in row.iter_mut().enumerate() {
             *place = AbsentLast(self.holder_at(task));
         }

@@ -24,8 +24,8 @@ impl Table<'_> {
         ensures { (q : ℕ) → q < 64 → (slice_index_or result q (record { 0 = None })).0 ≡ job_at (plan_contents self.now.plan.now) self.now.tasks self.now.rows.now which cluster q }
     {
         let mut row = [AbsentLast(None); 64];
-        // by index up to the last task, and written only where a job is: `iter_mut` over every place was tried, and takes
-        // more instructions
+        // by index, and written only where a job is: `iter_mut` was tried, and takes more instructions also where each place
+        // has a task
         for task in 0..self.tasks.min(64) {
             let Some(job) = self.job_at(which, cluster, task) else {
                 continue;

@@ -25,6 +25,7 @@ impl Refusal {
     pub fn number(self) -> u32
         ensures { result ≡ number self }
     {
+        // a match, since the numbers are the format and no derive gives them
         match self {
             Refusal::Form => 16,
             Refusal::Order => 17,

@@ -18,11 +18,11 @@ fn entry(table: &[u8], place: usize) -> Option<u8>
 fn declared_length(tables: &Tables, task: usize, resource: usize) -> Option<u16>
     ensures { result ≡ length_at (contents_of tables.now) task resource }
 {
-    if task >= tables.tasks.len() || resource >= tables.slots.len() + tables.reader_writers {
+    if task >= tables.tasks.len() || resource >= tables.resources() {
         return None;
     }
     let ticks = tables.lengths[task * 16 + resource];
-    if ticks == 0 { None } else { Some(ticks) }
+    (ticks != 0).then_some(ticks)
 }
 
 // The longest length declared for a resource that exists.
@@ -117,23 +117,17 @@ impl Plan {
     pub fn resources(&self) -> usize
         ensures { result ≡ resource_count (plan_contents self.now) }
     {
-        self.tables.slots.len() + self.tables.reader_writers
+        self.tables.resources()
     }
 
     /// The kind of a resource, if it exists.
     pub fn resource(&self, resource: usize) -> Option<Resource>
         ensures { result ≡ resource_at (plan_contents self.now) resource }
     {
-        match entry(self.tables.slots.as_slice(), resource) {
-            Some(k) => Some(Resource::Slots(k)),
-            None => {
-                if resource < self.tables.slots.len() + self.tables.reader_writers {
-                    Some(Resource::ReaderWriter)
-                } else {
-                    None
-                }
-            }
+        if let Some(k) = entry(self.tables.slots.as_slice(), resource) {
+            return Some(Resource::Slots(k));
         }
+        (resource < self.tables.resources()).then_some(Resource::ReaderWriter)
     }
 
     /// How many tasks there are.
@@ -161,7 +155,7 @@ impl Plan {
     pub fn longest(&self, resource: usize) -> Option<u16>
         ensures { result ≡ longest_of (plan_contents self.now) resource }
     {
-        if resource >= self.tables.slots.len() + self.tables.reader_writers {
+        if resource >= self.tables.resources() {
             return None;
         }
         Some(longest_length(&self.tables, resource))

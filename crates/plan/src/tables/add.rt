@@ -3,7 +3,7 @@ ghost use Rattle.item.specs.declared.item.Item.TheVariants.{Cluster as ClusterIt
 ghost use Rattle.text.specs.Questions.{first_no};
 ghost use Rattle.text.specs.Refusals.{number};
 ghost use Rattle.plan.specs.Adding.{empty, none, below, above, added, in_order, in_limits, has_room, item_questions};
-ghost use Rattle.plan.specs.Contents.{processors};
+ghost use Rattle.plan.specs.Contents.{processors, resource_count};
 ghost use Rattle.plan.specs.Drafts.{TakesLine};
 ghost use Rattle.plan.specs.Limits.{Between};
 ghost use Rattle.plan.specs.Of.{placed, declared, contents_of};
@@ -50,6 +50,14 @@ impl Tables {
         ensures { contents_of result ≡ empty }
     {
         Tables::bare([0; 1024])
+    }
+
+    // How many resources there are.
+    pub(crate) fn resources(&self) -> usize
+        ensures count { result ≡ resource_count (contents_of self.now) }
+        ensures few { result ≤ 16 }
+    {
+        self.slots.len() + self.reader_writers
     }
 
     // The processors of all clusters.
@@ -113,7 +121,7 @@ impl Tables {
                 ticks,
             } => {
                 (task as usize) < self.tasks.len()
-                    && (resource as usize) < self.slots.len() + self.reader_writers
+                    && (resource as usize) < self.resources()
                     && (1..=10000).contains(&ticks)
             }
         }
@@ -124,7 +132,7 @@ impl Tables {
     {
         match item {
             Item::Cluster(_) => self.clusters.len() < 8,
-            Item::Slots(_) | Item::ReaderWriter => self.slots.len() + self.reader_writers < 16,
+            Item::Slots(_) | Item::ReaderWriter => self.resources() < 16,
             Item::Task(_) => self.tasks.len() < 64,
             Item::Length {
                 task: _,

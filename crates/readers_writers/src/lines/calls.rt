@@ -7,7 +7,7 @@ ghost use Rattle.readers_writers.specs.ReadersWritersBankLemmas.{is_small, is_so
 
 use crate::lines::ReadersWriters;
 use bank::meaning::Bank;
-use bank::place::index;
+use bank::place::{index, check_party};
 use bank::refusal::Refusal;
 use bank::request::{Mode, Request};
 
@@ -62,9 +62,7 @@ impl Bank for ReadersWriters {
 
     fn request_of(&self, resource: u32, party: u32) -> Result<Option<Request>, Refusal> {
         let at = index(resource, self.count)?;
-        if party >= 64 {
-            return Err(Refusal::NoParty);
-        }
+        check_party(party)?;
         Ok(self.lines[at].request_of(party as u8))
     }
 

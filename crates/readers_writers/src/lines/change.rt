@@ -4,12 +4,12 @@ ghost use Rattle.readers_writers.specs.Banks.{told_of, active_of};
 ghost use Rattle.readers_writers.specs.Exactly.{EntersExactly, LeavesExactly};
 
 use crate::lines::ReadersWriters;
-use bank::place::index;
+use bank::place::{index, check_party};
 use bank::refusal::Refusal;
 use bank::request::Mode;
 
 impl ReadersWriters {
-    /// What the bank's `enter` does.
+    // What the bank's `enter` does, to which that adds what a bank always keeps, by a lemma.
     pub(crate) fn enter_line(
         &mut self,
         resource: u32,
@@ -22,9 +22,7 @@ impl ReadersWriters {
         ensures exact { EntersExactly resource party mode result self.old.lines self.new.lines }
     {
         let at = index(resource, self.count)?;
-        if party >= 64 {
-            return Err(Refusal::NoParty);
-        }
+        check_party(party)?;
         if self.lines[at].is_active(party as u8) {
             return Err(Refusal::AlreadyActive);
         }
@@ -36,7 +34,7 @@ impl ReadersWriters {
         Ok(lines[at].enter(party as u8, mode))
     }
 
-    /// What the bank's `leave` does.
+    // What the bank's `leave` does, in the same way.
     pub(crate) fn leave_line(&mut self, resource: u32, party: u32) -> Result<(), Refusal>
         ensures told { told_of self.new ≡ told_of self.old }
         ensures leaves { Leaves (told_of self.old) resource party result (active_of self.old) (active_of self.new) }
@@ -44,9 +42,7 @@ impl ReadersWriters {
         ensures exact { LeavesExactly resource party result self.old.lines self.new.lines }
     {
         let at = index(resource, self.count)?;
-        if party >= 64 {
-            return Err(Refusal::NoParty);
-        }
+        check_party(party)?;
         let Some(holder) = self.lines[at].holder(party as u8) else {
             return Err(Refusal::NotHolding);
         };

@@ -5,7 +5,7 @@ ghost use Rattle.slots.specs.Meaning.{is_small, is_sound};
 
 use crate::slots::Slots;
 use bank::meaning::Bank;
-use bank::place::index;
+use bank::place::{index, check_party};
 use bank::refusal::Refusal;
 use bank::request::{Mode, Request};
 
@@ -63,9 +63,7 @@ impl Bank for Slots {
 
     fn request_of(&self, resource: u32, party: u32) -> Result<Option<Request>, Refusal> {
         let at = index(resource, self.count)?;
-        if party >= 64 {
-            return Err(Refusal::NoParty);
-        }
+        check_party(party)?;
         Ok(self.lines[at].request_of(party as u8))
     }
 

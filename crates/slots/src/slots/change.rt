@@ -4,7 +4,7 @@ ghost use Rattle.bank.specs.Questions.{enter_questions, leave_questions};
 ghost use Rattle.slots.specs.Of.{told_of, active_of, refused_by, EntersLast, LeavesPlace};
 
 use crate::slots::Slots;
-use bank::place::index;
+use bank::place::{index, check_party};
 use bank::refusal::Refusal;
 use bank::request::Mode;
 
@@ -19,9 +19,7 @@ impl Slots {
         if mode == Mode::Read {
             return Err(Refusal::NoMode);
         }
-        if party >= 64 {
-            return Err(Refusal::NoParty);
-        }
+        check_party(party)?;
         let line = self.lines[at];
         if line.is_active(party as u8) {
             return Err(Refusal::AlreadyActive);
@@ -42,9 +40,7 @@ impl Slots {
         ensures exact { LeavesPlace resource party result self.old self.new }
     {
         let at = index(resource, self.count)?;
-        if party >= 64 {
-            return Err(Refusal::NoParty);
-        }
+        check_party(party)?;
         let Some(place) = self.lines[at].holder(party as u8) else {
             return Err(Refusal::NotHolding);
         };
