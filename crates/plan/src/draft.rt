@@ -74,10 +74,7 @@ impl Draft {
     pub fn seal(self, tables: &Tables, into: &mut Plan) -> Result<(), (Draft, Refused)>
         ensures { Seals self tables.now into.old result into.new }
     {
-        if tables.clusters.len() == 0
-            || tables.resources() == 0
-            || tables.tasks.len() == 0
-        {
+        if tables.clusters.len() == 0 || tables.resources() == 0 || tables.tasks.len() == 0 {
             let line = self.lines.saturating_add(1);
             return Err((
                 self,

@@ -7,7 +7,7 @@ ghost use Rattle.readers_writers.specs.ReadersWritersBankLemmas.{is_small, is_so
 
 use crate::lines::ReadersWriters;
 use bank::meaning::Bank;
-use bank::place::{index, check_party};
+use bank::place::{check_party, index};
 use bank::refusal::Refusal;
 use bank::request::{Mode, Request};
 

@@ -4,7 +4,7 @@ ghost use Rattle.readers_writers.specs.Banks.{told_of, active_of};
 ghost use Rattle.readers_writers.specs.Exactly.{EntersExactly, LeavesExactly};
 
 use crate::lines::ReadersWriters;
-use bank::place::{index, check_party};
+use bank::place::{check_party, index};
 use bank::refusal::Refusal;
 use bank::request::Mode;
 

@@ -5,7 +5,7 @@ ghost use Rattle.slots.specs.Meaning.{is_small, is_sound};
 
 use crate::slots::Slots;
 use bank::meaning::Bank;
-use bank::place::{index, check_party};
+use bank::place::{check_party, index};
 use bank::refusal::Refusal;
 use bank::request::{Mode, Request};
 

@@ -4,7 +4,7 @@ ghost use Rattle.bank.specs.Questions.{enter_questions, leave_questions};
 ghost use Rattle.slots.specs.Of.{told_of, active_of, refused_by, EntersLast, LeavesPlace};
 
 use crate::slots::Slots;
-use bank::place::{index, check_party};
+use bank::place::{check_party, index};
 use bank::refusal::Refusal;
 use bank::request::Mode;
 
