@@ -1,5 +1,5 @@
 -- Two pairs of banks with the same parties and entries, and what an enter and a leave make of them: the same again.
-use Rattle.std.proofs.Common.{◌≡◌, ℕ, ◌+◌, ◌-◌, ◌<◌, ◌≤◌, min, Bool, true, false, cond, ltb, ◌≢◌, List, [], ◌∷◌, ◌++◌, length, Ok, sym, refl, ap, ◌∙◌, subst, ⊎_elim, arith}
+use Rattle.std.proofs.Common.{◌≡◌, ℕ, ◌+◌, ◌-◌, ◌<◌, ◌≤◌, min, Bool, true, false, cond, ltb, ◌≢◌, [], ◌∷◌, ◌++◌, length, Ok, sym, refl, ap, ◌∙◌, subst, ⊎_elim, arith}
 use mathlib.Core.Path.{fun_ext}
 use Rattle.std.specs.List.{remove}
 use Rattle.std.proofs.lemmas.Bool.{cases_eq, cases_lt, ltb-true}
@@ -11,7 +11,6 @@ use Rattle.readers_writers.specs.Banks.{told_of as writers_told_of}
 use Rattle.readers_writers.specs.Exactly.{EntersExactly, LeavesExactly}
 use Rattle.readers_writers.specs.Lines.{requests as writers_requests, entered, left, admits}
 use Rattle.readers_writers.specs.Of.{entries_of}
-use Rattle.readers_writers.specs.declared.entry.Entry.{Entry}
 use Rattle.readers_writers.specs.declared.lines.ReadersWriters.{ReadersWriters}
 use Rattle.slots.specs.Lines.{requests as slots_requests, turn_limit}
 use Rattle.slots.specs.Of.{told_of, holders_of, parties_of}

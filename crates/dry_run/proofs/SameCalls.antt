@@ -1,8 +1,7 @@
 -- Two runs of one call, from the same standing over the same banks: the same is answered and printed, and they stand the same again.
 use Rattle.std.proofs.Common.{◌≡◌, ℕ, Bool, true, false, cond, List, [], ◌∷◌, Some, None, Ok, Err, Option, Result, sym, refl, ap, ◌∙◌, subst, arith}
-use mathlib.Core.Path.{fun_ext}
 use Rattle.std.proofs.lemmas.Bool.{true≢false}
-use Rattle.std.proofs.lemmas.Option.{none-some, same_Some}
+use Rattle.std.proofs.lemmas.Option.{none-some}
 use Rattle.bank.specs.Meaning.{Lists}
 use Rattle.bank.specs.Questions.{leave_questions}
 use Rattle.bank.specs.declared.request.Mode.{Mode}
@@ -11,21 +10,20 @@ use Rattle.event.specs.Answers.{event_of, line_text, number_text, asked_text, fi
 use Rattle.event.specs.Lines.{event_then}
 use Rattle.event.specs.declared.event.Event.{Event}
 use Rattle.event.specs.declared.event.Event.TheVariants.{Release, Ask, Give, Finish, Tick}
-use Rattle.rules.specs.Answers.{Event as Call, made, released, asked, gave, finished, ticked, Answered, Asks, IssuesNext, issue_questions, next_questions, resource_of}
+use Rattle.rules.specs.Answers.{Event as Call, made, released, asked, gave, finished, ticked, Answered, IssuesNext, issue_questions, next_questions, resource_of}
 use Rattle.rules.specs.Jobs.{Setup, Snapshot, jobs_in, first, next_issued}
 use Rattle.rules.specs.Moves.{moved_task, is_release, is_tick}
 use Rattle.rules.specs.Questions.{release_questions, ask_questions, give_questions, finish_questions, tick_questions}
-use Rattle.rules.specs.Refusals.{Refused, number}
+use Rattle.rules.specs.Refusals.{Refused}
 use Rattle.rules.specs.declared.answer.Asked.{Asked}
 use Rattle.rules.specs.declared.answer.Asked.TheVariants.{Hold, Wait, Back}
 use Rattle.rules.specs.declared.answer.Finished.{Finished}
 use Rattle.rules.specs.declared.answer.Issued.{Issued}
 use Rattle.rules.specs.declared.refusal.Refusal.{Refusal}
-use Rattle.rules.specs.declared.task.Task.{Task}
 use Rattle.text.specs.Questions.{Question, first_no}
 use Rattle.dry_run.specs.Banks.{Banks}
 use Rattle.dry_run.specs.Made.{meaning}
-use Rattle.dry_run.proofs.SameAnswers.{SameAnswer, same_by, same_refused_text, same_refusal, refused_number, refused_by_bank, NotTen}
+use Rattle.dry_run.proofs.SameAnswers.{SameAnswer, same_by, same_refused_text, same_refusal, refused_number, refused_by_bank}
 use Rattle.dry_run.proofs.SameBanks.{SameBanks, same_enter, same_leave}
 
 -- where no bank is asked, an accepted call is not refused

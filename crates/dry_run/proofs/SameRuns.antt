@@ -1,5 +1,5 @@
 -- Of one input one output: two dry runs that read the same lines from the same plan stand the same and have printed the same.
-use Rattle.std.proofs.Common.{◌≡◌, ℕ, ◌+◌, List, [], ◌∷◌, ◌++◌, length, get_or, drop, Some, None, Ok, Err, sym, refl, ap, ◌∙◌, subst, arith}
+use Rattle.std.proofs.Common.{◌≡◌, ℕ, List, [], ◌∷◌, ◌++◌, length, get_or, drop, Some, Ok, Err, sym, refl, ap, ◌∙◌, subst, arith}
 use mathlib.Core.Path.{fun_ext}
 use Rattle.std.proofs.lemmas.List.{length_push}
 use Rattle.std.proofs.lemmas.Option.{none-some, same_Some}
@@ -20,8 +20,8 @@ use Rattle.rules.specs.Moves.{Does, moved_task, one_more_if}
 use Rattle.rules.specs.declared.task.Task.{Task}
 use Rattle.dry_run.specs.Banks.{Banks}
 use Rattle.dry_run.specs.Made.{meaning, setup, snapshot, MadeFrom, Step}
-use Rattle.dry_run.specs.Plays.{Replays, none, unreadable, answered, Plays, PrintedBy, Printed}
-use Rattle.dry_run.specs.Said.{behind_plan, plan_told, verdict}
+use Rattle.dry_run.specs.Plays.{Replays, none, unreadable, answered, PrintedBy, Printed}
+use Rattle.dry_run.specs.Said.{plan_told, verdict}
 use Rattle.dry_run.proofs.SameBanks.{SameBanks, same_active, same_made, same_told}
 use Rattle.dry_run.proofs.SameCalls.{call_same}
 

@@ -19,13 +19,13 @@ use Rattle.text.specs.Lines.{lines_of}
 use Rattle.text.specs.Memory.{overlay}
 use Rattle.text.proofs.Writes.{overlay_none, overlay_more}
 use Rattle.dry_run.specs.Fed.{Planning, Replaying, FedIn, Fed, Laid, Takes, Ends}
-use Rattle.dry_run.specs.Steps.{LineDone, reserve_in, WaitsIn}
-use Rattle.dry_run.specs.Made.{meaning, setup, snapshot, MadeFrom}
+use Rattle.dry_run.specs.Steps.{LineDone}
+use Rattle.dry_run.specs.Made.{meaning, snapshot, MadeFrom}
 use Rattle.dry_run.specs.Plays.{Replays, none, unreadable, answered, Plays, PrintedBy, Printed}
 use Rattle.dry_run.specs.Said.{before_empty, plan_part, part_verdict, verdict, refused_text, plan_told, behind_plan, said}
 use Rattle.dry_run.specs.declared.run.DryRun.{DryRun}
 use Rattle.dry_run.specs.declared.run.Phase.{Phase}
-use Rattle.dry_run.specs.declared.run.Phase.TheVariants.{Plan, Events, Over}
+use Rattle.dry_run.specs.declared.run.Phase.TheVariants.{Over}
 use Rattle.dry_run.proofs.SameRuns.{one_print}
 use Rattle.dry_run.proofs.Bytes.{begins_push, found_not, part_found, part_none, part_short, Plain, plain_push, plain_line, plain_last, plain_unread, reads_front, front_grows, front_stays}
 
@@ -195,24 +195,6 @@ over_stays i o b fed =
     λ more. subst (λ x. Printed x (o ++ [])) (sym (append_assoc i (b ∷ []) more)) (subst (λ x. Printed (i ++ (b ∷ more)) x) (sym (append-nil o)) (fed (b ∷ more)))
 
 -- PIECES
-
--- what is kept is short
-pub reserve_few : (p : Phase) → reserve_in p ≤ 1040
-reserve_few (Plan text begins) = omega arith
-reserve_few (Events controller line) = omega arith
-reserve_few Over = omega arith
-
-pub waits_none : (p : Phase) → WaitsIn p 0
-waits_none (Plan text begins) = refl
-waits_none (Events controller line) = tt
-waits_none Over = tt
-
-pub takes_none : (d : DryRun) (old : List ℕ) → Takes d d [] old 0 0 old
-takes_none d old = record {
-  printed = [];
-  laid = laid_none old 0;
-  law = λ i o fed. subst (λ x. Fed d x (o ++ [])) (sym (append-nil i)) (subst (Fed d i) (sym (append-nil o)) fed);
-}
 
 pub takes_more : (d e f : DryRun) (p q old : List ℕ) (middle : ℕ) (mid : List ℕ) (end : ℕ) (new : List ℕ) → middle ≤ length old → Takes d e p old 0 middle mid → Takes e f q mid middle end new → Takes d f (p ++ q) old 0 end new
 takes_more d e f p q old middle mid end new room x y =
