@@ -1,12 +1,12 @@
 -- How a call changes the bank, as far as its maker makes known.
-use Rattle.std.specs.Prelude.{◌≡◌, ℕ, true, false, Some, None, Ok, Err, Option}
+use Rattle.std.specs.Prelude.{◌≡◌, ℕ, Some, None, Ok, Err, Option}
 use Rattle.bank.specs.declared.meaning.Bank.{Ghosts}
 use Rattle.rules.specs.Answers.{Event, made, released, asked, gave, finished, ticked}
 use Rattle.rules.specs.Jobs.{Snapshot}
 use Rattle.rules.specs.States.{wanted_of}
-use Rattle.rules.specs.declared.answer.Asked.TheVariants.{Hold, Wait, Back}
 use Rattle.rules.specs.declared.answer.Issued.{Issued}
 use Rattle.rules.specs.declared.task.Wanted.{Wanted}
+use Rattle.controller.specs.Issues.{AskChanges}
 
 module _ {X : Type 0} (b : Ghosts X) (s : Snapshot) where
   -- what a task has asked for
@@ -21,10 +21,7 @@ module _ {X : Type 0} (b : Ghosts X) (s : Snapshot) where
   abbrev pub BankChanges : Event → X → X → Type 0
   BankChanges made old new = new ≡ old
   BankChanges (released t x) old new = new ≡ old
-  BankChanges (asked t r m (Ok Hold)) old new = b.entered r t m (Ok true) old new
-  BankChanges (asked t r m (Ok Wait)) old new = b.entered r t m (Ok false) old new
-  BankChanges (asked t r m (Ok Back)) old new = new ≡ old
-  BankChanges (asked t r m (Err why)) old new = new ≡ old
+  BankChanges (asked t r m x) old new = AskChanges b.entered t r m x old new
   BankChanges (gave t (Ok n)) old new = b.left (wanted_by t).resource t (Ok tt) old new
   BankChanges (gave t (Err why)) old new = new ≡ old
   BankChanges (finished t (Ok f)) old new = IssuedChanges f.issued old new

@@ -1,8 +1,8 @@
 -- Two pairs of banks with the same parties and entries, and what an enter and a leave make of them: the same again.
-use Rattle.std.proofs.Common.{◌≡◌, ℕ, ◌+◌, ◌-◌, ◌<◌, ◌≤◌, min, Bool, true, false, cond, ltb, ◌≢◌, [], ◌∷◌, ◌++◌, length, Ok, sym, refl, ap, ◌∙◌, subst, ⊎_elim, arith}
+use Rattle.std.proofs.Common.{◌≡◌, ℕ, ◌+◌, ◌-◌, ◌<◌, ◌≤◌, min, Bool, ltb, ◌≢◌, [], ◌∷◌, ◌++◌, length, Ok, sym, refl, ap, ◌∙◌, subst, ⊎_elim, arith}
 use mathlib.Core.Path.{fun_ext}
 use Rattle.std.specs.List.{remove}
-use Rattle.std.proofs.lemmas.Bool.{cases_eq, cases_lt, ltb-true}
+use Rattle.std.proofs.lemmas.Bool.{cases_eq, cases_lt}
 use Rattle.bank.specs.Questions.{Told}
 use Rattle.bank.specs.declared.request.Mode.{Mode}
 use Rattle.pair.specs.Pairs.{part, pair_told}
@@ -18,6 +18,7 @@ use Rattle.slots.specs.Rows.{place}
 use Rattle.slots.specs.declared.slots.Slots.{Slots}
 use Rattle.dry_run.specs.Banks.{Banks, BanksOf}
 use Rattle.dry_run.specs.Made.{meaning}
+use Rattle.dry_run.proofs.SameTold.{part_at}
 
 -- the slots of two banks have the same k and parties
 pub record SameSlots (s t : Slots) : Type 0 where
@@ -31,12 +32,7 @@ pub record SameBanks (b d : Banks) : Type 0 where
 
 -- parts that tell the same of what exists
 part_same : {A : Type 0} (n k : ℕ) (x u y v : ℕ → A) → n ≡ k → ((r : ℕ) → r < n → x r ≡ u r) → ((r : ℕ) → y r ≡ v r) → part n x y ≡ part k u v
-part_same n k x u y v e f g =
-    ap (λ j. part j x y) e
-    ∙ fun_ext (λ r. elim (ltb r k) as (λ w. ltb r k ≡ w → cond w (x r) (y (r - k)) ≡ cond w (u r) (v (r - k))) [
-      | true ↦ λ h. f r (omega (arith, e, ltb-true r k h))
-      | false ↦ λ h. g (r - k)
-    ] refl)
+part_same n k x u y v e f g = fun_ext (λ r. part_at n k r x u y v e (λ h. f r (omega (arith, e))) (λ h. g (r - k)))
 
 -- so they have the same active requests
 pub same_active : (b d : Banks) → SameBanks b d → meaning.active b ≡ meaning.active d

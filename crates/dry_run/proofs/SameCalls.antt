@@ -26,13 +26,13 @@ use Rattle.dry_run.specs.Made.{meaning}
 use Rattle.dry_run.proofs.SameAnswers.{SameAnswer, same_by, same_refused_text, same_refusal, refused_number, refused_by_bank}
 use Rattle.dry_run.proofs.SameBanks.{SameBanks, same_enter, same_leave}
 
--- where no bank is asked, an accepted call is not refused
-unasked : (own : List Question) (w : Refusal) → first_no own ≡ None → Refused own [] w → ⊥
-unasked own w passed r = none-some _ (refused_by_bank own [] w passed r)
-
--- and where the bank would not refuse
+-- an accepted call is not refused, where the bank would not refuse
 granted : (own bank : List Question) (w : Refusal) → first_no own ≡ None → first_no bank ≡ None → Refused own bank w → ⊥
 granted own bank w passed free r = none-some _ (sym free ∙ refused_by_bank own bank w passed r)
+
+-- nor where no bank is asked
+unasked : (own : List Question) (w : Refusal) → first_no own ≡ None → Refused own [] w → ⊥
+unasked own w passed r = granted own [] w passed refl r
 
 kept : (b d u v : Banks) → SameBanks b d → u ≡ b → v ≡ d → SameBanks u v
 kept b d u v e x y = subst (λ s. SameBanks s v) (sym x) (subst (SameBanks b) (sym y) e)

@@ -1,5 +1,5 @@
 -- The lines of the limits hang only on what is told of the resources that exist.
-use Rattle.std.proofs.Common.{◌≡◌, ℕ, zero, suc, ◌+◌, ◌-◌, ◌*◌, ◌<◌, true, false, cond, ltb, ◌++◌, Some, None, unwrap_or, refl, ap, ◌∙◌, arith}
+use Rattle.std.proofs.Common.{◌≡◌, ℕ, zero, suc, ◌-◌, ◌*◌, ◌<◌, ◌≤◌, true, false, cond, ltb, ◌++◌, Some, None, unwrap_or, refl, ap, ◌∙◌, arith}
 use mathlib.Core.Path.{fun_ext}
 use Rattle.std.proofs.lemmas.Bool.{ltb-true, ltb-false}
 use Rattle.bank.specs.Questions.{Told}
@@ -29,21 +29,22 @@ pub record Same (s t : Told) : Type 0 where
   pub resources : s.resources ≡ t.resources
   pub each : (r : ℕ) → r < t.resources → SameAt s t r
 
-module _ (a a' b b' : Told) (f : Same a a') (g : Same b b') where
-  part_same : {A : Type 0} (r : ℕ) (x y x' y' : ℕ → A) → r < a'.resources + b'.resources → (r < a'.resources → x r ≡ x' r) → (r - a'.resources < b'.resources → y (r - a'.resources) ≡ y' (r - a'.resources)) → part a.resources x y r ≡ part a'.resources x' y' r
-  part_same r x y x' y' l first second =
-      ap (λ n. part n x y r) f.resources
-      ∙ elim (ltb r a'.resources) as (λ v. ltb r a'.resources ≡ v → cond v (x r) (y (r - a'.resources)) ≡ cond v (x' r) (y' (r - a'.resources))) [
-        | true ↦ λ e. first (ltb-true r a'.resources e)
-        | false ↦ λ e. second (omega (arith, ltb-false r a'.resources e))
-      ] refl
+-- two parts are the same at a resource, where they are as long and the one that it is of is the same there
+pub part_at : {A : Type 0} (n k r : ℕ) (x u y v : ℕ → A) → n ≡ k → (r < k → x r ≡ u r) → (k ≤ r → y (r - k) ≡ v (r - k)) → part n x y r ≡ part k u v r
+part_at n k r x u y v e first second =
+    ap (λ j. part j x y r) e
+    ∙ elim (ltb r k) as (λ w. ltb r k ≡ w → cond w (x r) (y (r - k)) ≡ cond w (u r) (v (r - k))) [
+      | true ↦ λ h. first (ltb-true r k h)
+      | false ↦ λ h. second (ltb-false r k h)
+    ] refl
 
+module _ (a a' b b' : Told) (f : Same a a') (g : Same b b') where
   pub pair_text : (c : Contents) → limits_text (pair_told a b) c ≡ limits_text (pair_told a' b') c
   pair_text c =
       let n : (pair_told a b).resources ≡ (pair_told a' b').resources = omega (arith, f.resources, g.resources) in
       ap (lines_to (pair_told a b) c) n
       ∙ same_lines (pair_told a b) (pair_told a' b') c (pair_told a' b').resources
       (λ r l. record {
-        reads = part_same r a.reads b.reads a'.reads b'.reads (omega arith) (λ h. (f.each r h).reads) (λ h. (g.each (r - a'.resources) h).reads);
-        limit = λ m. ap (λ h. h m) (part_same r a.limit b.limit a'.limit b'.limit (omega arith) (λ h. fun_ext (f.each r h).limit) (λ h. fun_ext (g.each (r - a'.resources) h).limit));
+        reads = part_at a.resources a'.resources r a.reads a'.reads b.reads b'.reads f.resources (λ h. (f.each r h).reads) (λ h. (g.each (r - a'.resources) (omega arith)).reads);
+        limit = λ m. ap (λ h. h m) (part_at a.resources a'.resources r a.limit a'.limit b.limit b'.limit f.resources (λ h. fun_ext (f.each r h).limit) (λ h. fun_ext (g.each (r - a'.resources) (omega arith)).limit));
       })

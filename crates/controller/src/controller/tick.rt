@@ -35,6 +35,7 @@ impl<B: Bank> Controller<B> {
                 blocked: record.blocked + 1,
                 ..record
             }),
+            // `tick_all` leaves these out, for its speed
             State::Idle | State::Going | State::HeldBack(_) => Some(record),
         }
     }

@@ -6,7 +6,7 @@ use Rattle.rules.specs.States.{idle_task, in_state, asked_state}
 use Rattle.rules.specs.declared.task.State.{State}
 use Rattle.rules.specs.declared.task.Wanted.{Wanted}
 use Rattle.controller.specs.Of.{setup_of, snapshot_of}
-use Rattle.controller.proofs.Answering.{ask_answered, ask_changes, ask_refused}
+use Rattle.controller.proofs.Answering.{ask_answered, ask_refused}
 use Rattle.controller.proofs.Checking.{yes_parts}
 use Rattle.controller.proofs.Same.{same_controllers, same_setup}
 use Rattle.controller.proofs.Tasks.{tasks_moved}
@@ -57,6 +57,6 @@ returns g c =
             clock = refl;
             releases = refl;
           };
-      bank = ask_changes g.B.Bank s c.args.task c.args.resource c.args.mode c.in_ok-answer.answer _ _ e.changes;
+      bank = e.changes;
       keeps = tt;
     }
