@@ -1,7 +1,7 @@
 #!/usr/bin/env python3
-"""Writes the listings of crates/listings.
+"""Writes the listings of crates/listings, and the input and output of the program in crates/stint.
 
-A listing's output is computed here from the rules of plans, banks and the controller, without the program.
+What must be printed is computed here from the rules of plans, banks and the controller, without the program.
 """
 import random
 import re
@@ -409,34 +409,80 @@ def random_plan(draw):
     return lines(*clusters, *slots, *writers, *tasks, *declared)
 
 
+def accepted_rows(plan):
+    """The rows of a plan that is accepted."""
+    rows = []
+    for line in plan.split(b"\n")[:-1]:
+        rows.append(refusal(line, rows))
+    return rows
+
+
+def random_line(draw, controller):
+    """An event line, with its newline, that is mostly accepted; the controller is called with it."""
+    tasks, banks = len(controller.cluster), len(controller.banks)
+    for _ in range(draw.randint(1, 8)):
+        t, r = draw.randint(0, tasks - (draw.random() < 0.95)), draw.randint(0, banks - (draw.random() < 0.95))
+        mode = "W" if r < banks and isinstance(controller.banks[r], Slots) and draw.random() < 0.9 else draw.choice("WR")
+        kind = draw.choice("NAAGFK")
+        good = {"N": t not in controller.jobs, "G": controller.holds(t), "K": True}.get(kind, t < tasks and controller.runs(t) and not controller.holds(t))
+        if good:
+            break
+    line = {"A": f"A,{t},{r},{mode}", "K": "K"}.get(kind, f"{kind},{t}").encode()
+    if draw.random() < 0.03:
+        line = draw.choice(BAD_LINES)
+    read = event(line + b"\n")
+    if read:
+        controller.call(*read)
+    return line + b"\n"
+
+
 def random_run(seed):
     """A random plan, with events of which most are accepted."""
     draw = random.Random(seed)
     plan = random_plan(draw)
-    rows = []
-    for line in plan.split(b"\n")[:-1]:
-        rows.append(refusal(line, rows))
-    controller, text = Controller(rows), b""
-    tasks, banks = len(controller.cluster), len(controller.banks)
-    for _ in range(draw.randint(20, 120)):
-        for _ in range(draw.randint(1, 8)):
-            t, r = draw.randint(0, tasks - (draw.random() < 0.95)), draw.randint(0, banks - (draw.random() < 0.95))
-            mode = "W" if r < banks and isinstance(controller.banks[r], Slots) and draw.random() < 0.9 else draw.choice("WR")
-            kind = draw.choice("NAAGFK")
-            good = {"N": t not in controller.jobs, "G": controller.holds(t), "K": True}.get(kind, t < tasks and controller.runs(t) and not controller.holds(t))
-            if good:
-                break
-        line = {"A": f"A,{t},{r},{mode}", "K": "K"}.get(kind, f"{kind},{t}").encode()
-        if draw.random() < 0.03:
-            line = draw.choice(BAD_LINES)
-        read = event(line + b"\n")
-        if read:
-            controller.call(*read)
-        text += line + b"\n"
+    controller = Controller(accepted_rows(plan))
+    text = b"".join(random_line(draw, controller) for _ in range(draw.randint(20, 120)))
     return plan + b"\n" + (text if draw.random() < 0.8 else text[:-1])
 
 
 INPUTS |= {f"random_{seed}": random_run(seed) for seed in range(300)}
+
+
+# the program's run: the worked example and its events, and then more, over two pieces of the bytes that it reads at a time
+PIECE = 65536
+# every number that this plan can show: its tasks declare a length at its one resource (4), and 6 and 11 are for 100,000,000 calls
+SHOWN = [1, 2, 3, 5, 7, 8, 9, 10, 21]
+LONG_LINES = [b"z" * 1000, b"K" * 5000, b"A,0,0,W" * 40, b"," * 17, b"N,0 " * 4]
+
+
+def long_run():
+    """An input that begins with the worked example, is longer than two pieces, and ends without a newline."""
+    draw = random.Random(2)
+    text = INPUTS["run_example"]
+    plan, events = text.split(b"\n\n")
+    controller = Controller(accepted_rows(plan + b"\n"))
+    for line in events.split(b"\n")[:-1]:
+        controller.call(*event(line + b"\n"))
+    for at, line in enumerate([*LONG_LINES, b"N,0"], 1):
+        while len(text) < 24000 * at:
+            text += random_line(draw, controller)
+        text += line + b"\n"
+    return text[:-1]
+
+
+def check_long_run(text, printed):
+    """Fails where the run does not show what it is for."""
+    example = INPUTS["run_example"]
+    assert text.startswith(example) and printed.startswith(answer(example))
+    assert len(text) > 2 * PIECE and not text.endswith(b"\n") and printed.endswith(b"?,no,21\n")
+    for end in range(PIECE, len(text), PIECE):
+        assert text[end - 1] != 10 and text[end] != 10, f"a line ends at {end}"
+    assert refusals(printed) == SHOWN
+
+
+def refusals(printed):
+    """The numbers that event lines are refused with."""
+    return sorted({int(n) for n in re.findall(rb"^[NAGFK?].*,no,(\d+)", printed, re.MULTILINE)})
 
 
 def main():
@@ -447,12 +493,17 @@ def main():
     for name, text in INPUTS.items():
         (data / f"{name}.in").write_bytes(text)
         (data / f"{name}.out").write_bytes(answer(text))
-    texts = b"".join(answer(text) for text in INPUTS.values())
-    shown = sorted({int(n) for n in re.findall(rb"^[NAGFK?].*,no,(\d+)", texts, re.MULTILINE)})
+    shown = refusals(b"".join(answer(text) for text in INPUTS.values()))
     (CRATES / "listings" / "args").write_text("".join(f"{name}\n" for name in INPUTS))
     (CRATES / "listings" / "stdout").write_text("".join(f"{name} true\n" for name in INPUTS))
     (CRATES / "bench" / "data" / "full.txt").write_bytes(FULL)
     print(f"{len(INPUTS)} listings, with refusals {shown} of events; the full plan has {len(FULL)} bytes, the longest {len(LONGEST)}")
+    run = long_run()
+    printed = answer(run)
+    check_long_run(run, printed)
+    (CRATES / "stint" / "stdin").write_bytes(run)
+    (CRATES / "stint" / "stdout").write_bytes(printed)
+    print(f"the run of stint has {len(run)} bytes and prints {len(printed)}, with refusals {SHOWN} of events")
 
 
 if __name__ == "__main__":
