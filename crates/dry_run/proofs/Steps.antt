@@ -13,8 +13,7 @@ use Rattle.plan.specs.Contents.{Contents}
 use Rattle.plan_text.specs.Texts.{Verdict, read_text}
 use Rattle.rules.specs.Answers.{made}
 use Rattle.rules.specs.Histories.{History}
-use Rattle.rules.specs.Promises.{Lawful}
-use Rattle.rules.specs.Runs.{Runs, moment}
+use Rattle.rules.specs.Runs.{LawfulRun, moment}
 use Rattle.text.specs.Lines.{lines_of}
 use Rattle.text.specs.Memory.{overlay}
 use Rattle.text.proofs.Writes.{overlay_none, overlay_more}
@@ -92,8 +91,7 @@ module _ (text i o : List ℕ) (planning : Planning text true i o) where
       begins = controller;
       controller = m;
       history = moment made (snapshot controller) ∷ [];
-      runs = m.starts.0;
-      lawful = m.starts.1;
+      run = m.starts;
       answers = [];
       replays = none;
       printed = ap (λ xs. xs ++ limits_text (plan_told c) c) planning.nothing ∙ sym (append-nil (limits_text (plan_told c) c));
@@ -113,21 +111,18 @@ module _ (c : Contents) (k next : Controller Banks meaning) (lines : List (List 
         begins = p.begins;
         controller = p.controller;
         history = p.history;
-        runs = p.runs;
-        lawful = p.lawful;
+        run = p.run;
         answers = p.answers ++ printed;
         replays = subst (λ x. Replays p.begins (lines ++ (line ∷ [])) p.history k (p.answers ++ x)) (sym text) (unreadable line p.replays r);
         printed = longer;
       } in
       subst (λ x. Plays c x (lines ++ (line ∷ [])) (o ++ printed)) (sym same) more
   plays_more (Some e) r (call, of, text, follows, step) =
-      let on = follows p.history p.runs in
       record {
         begins = p.begins;
         controller = p.controller;
         history = moment call (snapshot next) ∷ p.history;
-        runs = subst (λ x. Runs x (snapshot next) (moment call (snapshot next) ∷ p.history)) (sym step.same) on.0;
-        lawful = subst (λ x. Lawful x (moment call (snapshot next) ∷ p.history)) (sym step.same) on.1;
+        run = subst (λ x. LawfulRun x (snapshot next) (moment call (snapshot next) ∷ p.history)) (sym step.same) (follows p.history p.run.runs);
         answers = p.answers ++ printed;
         replays = subst (λ x. Replays p.begins (lines ++ (line ∷ [])) (moment call (snapshot next) ∷ p.history) next (p.answers ++ x)) (sym text) (answered line e call next p.replays r of step);
         printed = longer;

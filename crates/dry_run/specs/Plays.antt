@@ -9,8 +9,7 @@ use Rattle.plan.specs.Contents.{Contents}
 use Rattle.plan_text.specs.Texts.{Verdict}
 use Rattle.rules.specs.Answers.{Event as Call, made}
 use Rattle.rules.specs.Histories.{History}
-use Rattle.rules.specs.Promises.{Lawful}
-use Rattle.rules.specs.Runs.{Runs, moment}
+use Rattle.rules.specs.Runs.{LawfulRun, moment}
 use Rattle.text.specs.Lines.{lines_of}
 use Rattle.dry_run.specs.Banks.{Banks}
 use Rattle.dry_run.specs.Made.{meaning, setup, snapshot, MadeFrom, Step}
@@ -28,8 +27,7 @@ pub record Plays (c : Contents) (k : Controller Banks meaning) (lines : List (Li
   pub begins : Controller Banks meaning
   pub controller : MadeFrom c begins
   pub history : History
-  pub runs : Runs (setup k) (snapshot k) history
-  pub lawful : Lawful (setup k) history
+  pub run : LawfulRun (setup k) (snapshot k) history
   pub answers : List ℕ
   pub replays : Replays begins lines history k answers
   pub printed : out ≡ limits_text (plan_told c) c ++ answers

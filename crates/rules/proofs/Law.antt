@@ -13,7 +13,7 @@ use Rattle.rules.specs.Jobs.{Setup, Snapshot, runs}
 use Rattle.rules.specs.Moves.{Does}
 use Rattle.rules.specs.Promises.{Kept, InMode, AtMost, WithinLength, AnsweredAfter, Lawful}
 use Rattle.rules.specs.Questions.{fits_at, all_below, equal_bool, slots_in, reads_in}
-use Rattle.rules.specs.Runs.{Fitting, SetUp, Begins, SoundLists, moment, Runs, starts, goes, Follows, Starts}
+use Rattle.rules.specs.Runs.{Fitting, SetUp, Begins, SoundLists, moment, Runs, starts, goes, LawfulRun, Follows, Starts}
 use Rattle.rules.specs.States.{is_ready}
 use Rattle.rules.specs.declared.task.Wanted.{Wanted}
 use Rattle.rules.proofs.Counts.{all_below_lem}
@@ -204,9 +204,16 @@ run_end {a} (goes {s} {t} {h} {e} run sound does) =
       lawful = (record { answered = answered_after a e h t.lists d.answered; bank_takes = bank_takes_lem a before.setting h before.inv e t.lists d.answered; stays_first = next.stays; kept = kept a before.setting (moment e t ∷ h) next.inv }, before.lawful);
     }
 
--- a call that does what it says follows every run, and the whole keeps the law
+-- a run keeps the law, and where it led to stands as its history says
+pub lawful_run : {a : Setup} {s : Snapshot} {h : History} → Runs a s h → LawfulRun a s h
+lawful_run run = let end = run_end run in record { runs = run; lawful = end.lawful; stands = end.same }
+
+pub stands : {a : Setup} {s : Snapshot} {h : History} → Runs a s h → s ≡ after a h
+stands run = (run_end run).same
+
+-- a call that does what it says follows every run
 pub follows : (a : Setup) (s t : Snapshot) (e : Event) → SoundLists a t → Does a s e t → Follows a s e t
-follows a s t e sound does h run = let next = goes run sound does in (next, (run_end next).lawful)
+follows a s t e sound does h run = lawful_run (goes run sound does)
 
 pub begins : (a : Setup) (s : Snapshot) → Begins a s → SoundLists a s → Starts a s
-begins a s b sound = let first = starts b sound in (first, (run_end first).lawful)
+begins a s b sound = lawful_run (starts b sound)

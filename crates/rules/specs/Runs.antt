@@ -3,7 +3,7 @@ use Rattle.std.specs.Prelude.{◌≡◌, ℕ, ◌<◌, ◌≤◌, true, false, �
 use Rattle.bank.specs.Meaning.{Lists, Small, Sound}
 use Rattle.plan.specs.Contents.{resource_count}
 use Rattle.rules.specs.Answers.{Event, made}
-use Rattle.rules.specs.Histories.{Moment, History}
+use Rattle.rules.specs.Histories.{Moment, History, after}
 use Rattle.rules.specs.Jobs.{Setup, Snapshot, cluster_of}
 use Rattle.rules.specs.Moves.{Does}
 use Rattle.rules.specs.Promises.{Lawful}
@@ -47,10 +47,16 @@ pub data Runs (a : Setup) : Snapshot → History → Type 0 where
   starts : {s : Snapshot} → Begins a s → SoundLists a s → Runs a s (moment made s ∷ [])
   goes : {s t : Snapshot} {h : History} {e : Event} → Runs a s h → SoundLists a t → Does a s e t → Runs a t (moment e t ∷ h)
 
--- a call added to every history that led to where it was made: the law holds of the whole
+-- A run that keeps the law: every call of its history is lawful, and s stands exactly as the history says.
+pub record LawfulRun (a : Setup) (s : Snapshot) (h : History) : Type 0 where
+  pub runs : Runs a s h
+  pub lawful : Lawful a h
+  pub stands : s ≡ after a h
+
+-- a call added to every history that led to where it was made: the whole is a run that keeps the law
 abbrev pub Follows : Setup → Snapshot → Event → Snapshot → Type 0
-Follows a s e t = (h : History) → Runs a s h → Runs a t (moment e t ∷ h) × Lawful a (moment e t ∷ h)
+Follows a s e t = (h : History) → Runs a s h → LawfulRun a t (moment e t ∷ h)
 
 -- the first call of a history, which makes the controller
 abbrev pub Starts : Setup → Snapshot → Type 0
-Starts a t = Runs a t (moment made t ∷ []) × Lawful a (moment made t ∷ [])
+Starts a t = LawfulRun a t (moment made t ∷ [])
