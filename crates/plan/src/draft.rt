@@ -1,5 +1,7 @@
-ghost use Rattle.std.specs.Prelude.{◌≡◌, true, false};
-ghost use Rattle.plan.specs.Drafts.{AddsLine, Seals};
+ghost use Rattle.std.specs.Prelude.{◌≡◌};
+ghost use Rattle.plan.specs.Adding.{empty};
+ghost use Rattle.plan.specs.Drafts.{lines_taken, AddsLine, Seals};
+ghost use Rattle.plan.specs.Of.{contents_of};
 
 use crate::plan::Plan;
 use crate::tables::Tables;
@@ -10,16 +12,16 @@ use text::refusal::Refusal;
 // `Drop` asks for what no draft has, so that a forgotten draft is refused by the prover, and not only by the check of moves.
 #[derive(Debug, PartialEq, Eq)]
 pub struct Draft {
-    lines: usize,
-    ended: bool,
+    // the number of the next line, counted from 1
+    next: usize,
 }
 
 impl Drop for Draft {
-    // Runs for no draft: by the contracts of `new`, `add` and `seal` none has ended.
+    // Runs for no draft: by the contracts of `new` and `add` none has 0.
     fn drop(self)
-        requires { self.ended ≡ true }
+        requires { self.next ≡ 0 }
     {
-        let Draft { lines: _, ended: _ } = self;
+        let Draft { next: _ } = self;
     }
 }
 
@@ -32,41 +34,38 @@ pub struct Refused {
 }
 
 impl Draft {
-    /// A draft that has taken no line.
-    pub fn new() -> Draft
-        ensures empty { result.lines ≡ 0 }
-        ensures going { result.ended ≡ false }
+    /// Begins a draft that has taken no line, and empties the tables that are lent for it: what another draft put
+    /// there is gone.
+    pub fn new(tables: &mut Tables) -> Draft
+        ensures first { result.next ≡ 1 }
+        ensures empty { contents_of tables.new ≡ empty }
     {
-        let ended = false;
-        Draft { lines: 0, ended }
+        *tables = Tables::new();
+        Draft { next: 1 }
     }
 
     /// Lets a draft go, and answers how many lines it took.
     pub fn discard(self) -> usize
-        ensures { result ≡ self.lines }
+        ensures { result ≡ lines_taken self }
     {
-        let Draft { lines, ended: _ } = self;
-        lines
+        let Draft { next } = self;
+        next.saturating_sub(1)
     }
 
     /// Takes one line, with its newline, into the tables.
     pub fn add(self, tables: &mut Tables, line: &[u8]) -> Result<Draft, (Draft, Refused)>
         ensures { AddsLine self line.now tables.old result tables.new }
     {
-        let next = self.lines.saturating_add(1);
         match tables.take_line(line) {
             Ok(()) => {
-                let ended = self.ended;
-                let Draft { lines: _, ended: _ } = self;
-                Ok(Draft { lines: next, ended })
+                let next = self.next.saturating_add(1);
+                let Draft { next: _ } = self;
+                Ok(Draft { next })
             }
-            Err(refusal) => Err((
-                self,
-                Refused {
-                    refusal,
-                    line: next,
-                },
-            )),
+            Err(refusal) => {
+                let line = self.next;
+                Err((self, Refused { refusal, line }))
+            }
         }
     }
 
@@ -75,17 +74,12 @@ impl Draft {
         ensures { Seals self tables.now into.old result into.new }
     {
         if tables.clusters.len() == 0 || tables.resources() == 0 || tables.tasks.len() == 0 {
-            let line = self.lines.saturating_add(1);
-            return Err((
-                self,
-                Refused {
-                    refusal: Refusal::Incomplete,
-                    line,
-                },
-            ));
+            let refusal = Refusal::Incomplete;
+            let line = self.next;
+            return Err((self, Refused { refusal, line }));
         }
         *into = Plan { tables: *tables };
-        let Draft { lines: _, ended: _ } = self;
+        self.discard();
         Ok(())
     }
 }

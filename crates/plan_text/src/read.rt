@@ -11,7 +11,7 @@ fn take_text(text: &[u8], into: &mut Plan) -> Result<(), Refused>
     ensures { ReadsText text.now into.old result into.new }
 {
     let mut tables = Tables::new();
-    let mut draft = Draft::new();
+    let mut draft = Draft::new(&mut tables);
     let mut rest = text;
     // no index: each turn takes a line off the text
     while !rest.is_empty() {
