@@ -1,0 +1,3 @@
+pub mod SlotsSteps
+pub mod WritersSteps
+pub mod Examples

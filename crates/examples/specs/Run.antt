@@ -1,83 +1,236 @@
 -- One run read by the words of a history: a cluster of two processors, one slot, three tasks.
-use Rattle.std.specs.Prelude.{◌≡◌, true, false, List, [], ◌∷◌, Some, Ok, Err}
+use Rattle.std.specs.Prelude.{◌≡◌, ℕ, Bool, true, false, List, [], ◌∷◌, take, codes, ⊤}
+use Rattle.std.specs.Prelude.{Some, None, Ok, Err, Option}
+use Rattle.bank.specs.Questions.{Told}
 use Rattle.bank.specs.declared.request.Mode.TheVariants.{Write}
 use Rattle.bank.specs.declared.request.Request.{Request}
+use Rattle.plan.specs.Contents.{Contents}
+use Rattle.plan_text.specs.Texts.{read_text}
 use Rattle.rules.specs.Answers.{Event, made, released, asked, gave, finished, ticked}
-use Rattle.rules.specs.Histories.{Moment, History, state, jobs_after, used, waited, job_waited, blocked_ticks_of, after}
+use Rattle.rules.specs.Histories.{Moment, History, job, wanted, issued, holding, waiting, state}
+use Rattle.rules.specs.Histories.{jobs_after, used, waited, job_waited, blocked_ticks_of, after}
 use Rattle.rules.specs.Jobs.{Setup, runs, first, blocked, next_issued}
+use Rattle.rules.specs.Promises.{AnsweredAfter}
 use Rattle.rules.specs.Questions.{late_task, ask_questions}
 use Rattle.rules.specs.declared.answer.Asked.TheVariants.{Hold, Wait, Back}
-use Rattle.rules.specs.declared.refusal.Refusal.TheVariants.{NotRunning, Late}
+use Rattle.rules.specs.declared.refusal.Refusal.TheVariants.{NotRunning, StillHolding, Late}
+use Rattle.rules.specs.declared.task.State.{State}
 use Rattle.rules.specs.declared.task.State.TheVariants.{Idle, Going, HeldBack, Waiting, Holding}
 use Rattle.rules.specs.declared.task.Wanted.{Wanted}
 use Rattle.slots.specs.Lines.{turn_limit}
 use Rattle.text.specs.Questions.{first_no}
 use Rattle.examples.specs.Examples.{holder, waiter}
 
-abbrev pub setup : Setup
-setup = record {
-  plan = record { clusters = 2 ∷ []; slots = 1 ∷ []; reader_writers = 0; tasks = 0 ∷ (0 ∷ (0 ∷ [])); lengths = record { task = 0; resource = 0; ticks = 2 } ∷ (record { task = 1; resource = 0; ticks = 1 } ∷ (record { task = 2; resource = 0; ticks = 1 } ∷ [])) };
-  told = record { resources = 1; seats = 2; slots = λ _. 1; reads = λ _. false; limit = λ _ _. turn_limit 2 1 };
-  tasks = 3;
-  resources = 1;
-}
+abbrev pub text : List ℕ
+text = codes "C,2\nS,1\nT,0\nT,0\nT,0\nL,0,0,2\nL,1,0,1\nL,2,0,1\n"
 
-abbrev pub at : Event → List Request → Moment
-at e xs = record { event = e; lists = λ _. xs }
+abbrev pub plan : Contents
+plan =
+    record {
+      clusters = 2 ∷ [];
+      slots = 1 ∷ [];
+      reader_writers = 0;
+      tasks = 0 ∷ 0 ∷ 0 ∷ [];
+      lengths =
+          record { task = 0; resource = 0; ticks = 2 }
+          ∷ record { task = 1; resource = 0; ticks = 1 }
+          ∷ record { task = 2; resource = 0; ticks = 1 }
+          ∷ [];
+    }
+
+abbrev pub told : Told
+told =
+    record {
+      resources = 1;
+      seats = 2;
+      slots = λ _. 1;
+      reads = λ _. false;
+      limit = λ _ _. turn_limit 2 1;
+    }
+
+abbrev pub setup : Setup
+setup = record { plan = plan; told = told; tasks = 3; resources = 1 }
+
+-- what the words of a history say of a task
+pub record Words : Type 0 where
+  pub state : State
+  pub job : Option ℕ
+  pub wanted : Option Wanted
+  pub issued : Bool
+  pub holding : Bool
+  pub waiting : Bool
+  -- ticks that its request was used, and that it waited
+  pub used : ℕ
+  pub waited : ℕ
+  -- ticks that the job's requests waited, and that it was blocked
+  pub job_waited : ℕ
+  pub blocked : ℕ
+
+abbrev pub words : ℕ → History → Words
+words t h =
+    record {
+      state = state t h;
+      job = job t h;
+      wanted = wanted t h;
+      issued = issued t h;
+      holding = holding t h;
+      waiting = waiting t h;
+      used = used t h;
+      waited = waited t h;
+      job_waited = job_waited t h;
+      blocked = blocked_ticks_of setup t h;
+    }
 
 abbrev pub valve : Wanted
 valve = record { resource = 0; mode = Write }
 
--- three jobs are released; 0 holds, 1 waits, and 2 is held back
-abbrev pub begun : History
-begun =
-    at (asked 2 0 Write (Ok Back)) (holder 0 Write ∷ (waiter 1 Write 1 1 ∷ []))
-    ∷ (at (asked 1 0 Write (Ok Wait)) (holder 0 Write ∷ (waiter 1 Write 1 1 ∷ []))
-    ∷ (at (asked 2 0 Write (Err NotRunning)) (holder 0 Write ∷ [])
-    ∷ (at (asked 0 0 Write (Ok Hold)) (holder 0 Write ∷ [])
-    ∷ (at (released 2 (Ok 2)) []
-    ∷ (at (released 1 (Ok 1)) []
-    ∷ (at (released 0 (Ok 0)) []
-    ∷ (at made [] ∷ [])))))))
+abbrev pub idle : Words
+idle =
+    record {
+      state = Idle;
+      job = None;
+      wanted = None;
+      issued = false;
+      holding = false;
+      waiting = false;
+      used = 0;
+      waited = 0;
+      job_waited = 0;
+      blocked = 0;
+    }
 
--- two ticks, and a third that is refused since 0 has used its length
-abbrev pub late : History
-late =
-    at (ticked (Err (Late 0))) (holder 0 Write ∷ (waiter 1 Write 1 1 ∷ []))
-    ∷ (at (ticked (Ok 2)) (holder 0 Write ∷ (waiter 1 Write 1 1 ∷ []))
-    ∷ (at (ticked (Ok 1)) (holder 0 Write ∷ (waiter 1 Write 1 1 ∷ []))
-    ∷ begun))
+-- job n, whose requests have waited so many ticks, which is as long as it was blocked
+abbrev pub going : ℕ → ℕ → Words
+going n ticks = record idle { state = Going; job = Some n; job_waited = ticks; blocked = ticks }
 
--- 0 gives back and 1 holds; 0 finishes, and the request of 2 is issued; a tick
-abbrev pub given : History
-given = at (gave 0 (Ok 2)) (holder 1 Write ∷ []) ∷ late
+-- it has asked for the valve, and the request is not issued
+abbrev pub held_back : ℕ → ℕ → Words
+held_back n ticks = record (going n ticks) { state = HeldBack valve; wanted = Some valve }
 
-abbrev pub passed : History
-passed =
-    at (ticked (Ok 3)) (holder 1 Write ∷ (waiter 2 Write 1 1 ∷ []))
-    ∷ (at (finished 0 (Ok (record { blocked = 0; issued = Some (record { task = 2; holds = false }) }))) (holder 1 Write ∷ (waiter 2 Write 1 1 ∷ []))
-    ∷ given)
+-- the request is issued, and waits, or holds and is used
+abbrev pub waits : ℕ → ℕ → Words
+waits n ticks =
+    record (going n ticks) {
+      state = Waiting valve;
+      wanted = Some valve;
+      issued = true;
+      waiting = true;
+      waited = ticks;
+    }
 
+abbrev pub holds : ℕ → ℕ → ℕ → Words
+holds n ticks used =
+    record (going n ticks) {
+      state = Holding valve;
+      wanted = Some valve;
+      issued = true;
+      holding = true;
+      waited = ticks;
+      used = used;
+    }
+
+-- a call with its answer, the bank's list after it, and what is then said of tasks 0, 1 and 2
+pub record Call : Type 0 where
+  pub event : Event
+  pub list : List Request
+  pub zero : Words
+  pub one : Words
+  pub two : Words
+
+abbrev pub call : Event → List Request → Words → Words → Words → Call
+call e xs zero one two = record { event = e; list = xs; zero = zero; one = one; two = two }
+
+abbrev pub none : List Request
+none = []
+
+-- one holds alone, or before one that waits
+abbrev pub alone : ℕ → List Request
+alone p = holder p Write ∷ []
+
+abbrev pub before : ℕ → ℕ → List Request
+before p q = holder p Write ∷ waiter q Write 1 1 ∷ []
+
+-- 0 ends, and the request of 2 is issued, and waits
+abbrev pub ended_for_two : Event
+ended_for_two =
+    finished 0 (Ok (record { blocked = 0; issued = Some (record { task = 2; holds = false }) }))
+
+-- a job ends after so many blocked ticks, and no request is issued
+abbrev pub ended : ℕ → ℕ → Event
+ended t ticks = finished t (Ok (record { blocked = ticks; issued = None }))
+
+abbrev pub run : List Call
+run =
+    call (released 0 (Ok 0)) none (going 0 0) idle idle
+    ∷ call (released 1 (Ok 1)) none (going 0 0) (going 1 0) idle
+    ∷ call (released 2 (Ok 2)) none (going 0 0) (going 1 0) (going 2 0)
+    ∷ call (asked 0 0 Write (Ok Hold)) (alone 0) (holds 0 0 0) (going 1 0) (going 2 0)
+    ∷ call (asked 2 0 Write (Err NotRunning)) (alone 0) (holds 0 0 0) (going 1 0) (going 2 0)
+    ∷ call (asked 1 0 Write (Ok Wait)) (before 0 1) (holds 0 0 0) (waits 1 0) (going 2 0)
+    ∷ call (asked 2 0 Write (Ok Back)) (before 0 1) (holds 0 0 0) (waits 1 0) (held_back 2 0)
+    ∷ call (ticked (Ok 1)) (before 0 1) (holds 0 0 1) (waits 1 1) (held_back 2 0)
+    ∷ call (ticked (Ok 2)) (before 0 1) (holds 0 0 2) (waits 1 2) (held_back 2 0)
+    ∷ call (ticked (Err (Late 0))) (before 0 1) (holds 0 0 2) (waits 1 2) (held_back 2 0)
+    ∷ call (gave 0 (Ok 2)) (alone 1) (going 0 0) (holds 1 2 0) (held_back 2 0)
+    ∷ call ended_for_two (before 1 2) idle (holds 1 2 0) (waits 2 0)
+    ∷ call (ticked (Ok 3)) (before 1 2) idle (holds 1 2 1) (waits 2 1)
+    ∷ call (gave 1 (Ok 1)) (alone 2) idle (going 1 2) (holds 2 1 0)
+    ∷ call (ended 1 2) (alone 2) idle idle (holds 2 1 0)
+    ∷ call (finished 2 (Err StillHolding)) (alone 2) idle idle (holds 2 1 0)
+    ∷ call (gave 2 (Ok 0)) none idle idle (going 2 1)
+    ∷ call (ended 2 1) none idle idle idle
+    ∷ []
+
+abbrev pub moment : Event → List Request → Moment
+moment e xs = record { event = e; lists = λ _. xs }
+
+-- a history, and it after further calls
+abbrev pub start : History
+start = moment made none ∷ []
+
+abbrev pub then : History → Call → History
+then h c = moment c.event c.list ∷ h
+
+abbrev pub history_from : History → List Call → History
+history_from h [] = h
+history_from h (c ∷ cs) = history_from (then h c) cs
+
+-- the history of the first n calls
+abbrev pub history : ℕ → History
+history n = history_from start (take n run)
+
+-- each call is answered by the rules, and after it the words say of each task what stands beside it
+abbrev pub Said : History → List Call → Type 0
+Said h [] = ⊤
+Said h (c ∷ cs) =
+    AnsweredAfter setup c.event h (λ _. c.list)
+    × (words 0 (then h c) ≡ c.zero)
+    × (words 1 (then h c) ≡ c.one)
+    × (words 2 (then h c) ≡ c.two)
+    × Said (then h c) cs
+
+-- which jobs run, are among the first and are blocked after the seventh call
+abbrev pub JobsHold : Type 0
+JobsHold =
+    (runs setup (jobs_after (history 7)) 0 ≡ true)
+    × (first setup (jobs_after (history 7)) 1 ≡ true)
+    × (blocked setup (jobs_after (history 7)) 1 ≡ true)
+    × (first setup (jobs_after (history 7)) 2 ≡ false)
+    × (blocked setup (jobs_after (history 7)) 2 ≡ false)
+
+-- who is late at the tick that is refused, whose request the end of 0 issues,
+-- and that 1 may not ask while it holds
+abbrev pub CallsHold : Type 0
+CallsHold =
+    (late_task setup (after setup (history 9)) ≡ Some 0)
+    × (next_issued setup (after setup (history 11)) 0 ≡ Some 2)
+    × (first_no (ask_questions setup (after setup (history 13)) 1 0 Write) ≡ Some 8)
+
+-- the text is accepted as the plan, the controller is made, and the run goes as told
 abbrev pub RunHolds : Type 0
 RunHolds =
-    (state 0 begun ≡ Holding valve)
-    × (state 1 begun ≡ Waiting valve)
-    × (state 2 begun ≡ HeldBack valve)
-    × (runs setup (jobs_after begun) 0 ≡ true)
-    × (first setup (jobs_after begun) 1 ≡ true)
-    × (blocked setup (jobs_after begun) 1 ≡ true)
-    × (first setup (jobs_after begun) 2 ≡ false)
-    × (blocked setup (jobs_after begun) 2 ≡ false)
-    × (used 0 late ≡ 2)
-    × (waited 1 late ≡ 2)
-    × (late_task setup (after setup late) ≡ Some 0)
-    × (state 0 given ≡ Going)
-    × (state 1 given ≡ Holding valve)
-    × (used 1 given ≡ 0)
-    × (next_issued setup (after setup given) 0 ≡ Some 2)
-    × (state 0 passed ≡ Idle)
-    × (state 2 passed ≡ Waiting valve)
-    × (blocked_ticks_of setup 1 passed ≡ 2)
-    × (job_waited 1 passed ≡ 2)
-    × (blocked_ticks_of setup 2 passed ≡ 1)
-    × (first_no (ask_questions setup (after setup passed) 1 0 Write) ≡ Some 8)
+    (read_text text ≡ Ok plan)
+    × AnsweredAfter setup made [] (λ _. none)
+    × Said start run
+    × JobsHold
+    × CallsHold

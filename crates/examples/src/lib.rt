@@ -1,21 +1,31 @@
 //! The worked examples hold, in one proof over their list.
 #![tactic(auto)]
 
-ghost use Rattle.std.specs.Prelude.{◌≡◌, length};
-ghost use Rattle.examples.specs.Examples.{examples, AllHold};
+ghost use Rattle.examples.specs.Examples.{AllHold, EachIsIn};
 ghost use Rattle.examples.specs.Run.{RunHolds};
 
-fn count() -> usize
-    ensures { result ≡ length examples }
-{
-    10
-}
+pub mod example;
 
-/// How many worked examples there are; each of them holds, and so does what the words of a history say of one run.
-pub fn hold() -> usize
-    ensures all { AllHold }
+use example::Example;
+
+/// All worked examples, none left out. Each of them holds, and one run goes call by call as specs/Run.antt
+/// tells it.
+#[tactic(auto, using(crate::proofs::Examples::all_hold, crate::proofs::Examples::each_is_in))]
+pub fn hold() -> [Example; 10]
+    ensures all { AllHold result }
+    ensures each { EachIsIn result }
     ensures run { RunHolds }
-    ensures count { result ≡ length examples }
 {
-    count()
+    [
+        Example::NoLines,
+        Example::NoNewline,
+        Example::EightProcessors,
+        Example::NineProcessors,
+        Example::LeadingZero,
+        Example::SlotsEntered,
+        Example::SlotsLeft,
+        Example::ReadsAndWrite,
+        Example::ReadLeft,
+        Example::ThreeWrites,
+    ]
 }
