@@ -1,5 +1,5 @@
-/// A worked example, by name. A bank's example is worked at one resource from nobody active on. What is
-/// answered and listed stands in specs/Examples.antt.
+/// A worked example, by name. A bank's example is worked at one resource from nobody active on.
+/// What is answered and listed stands in specs/Examples.antt.
 #[derive(Debug, Clone, Copy, PartialEq, Eq)]
 pub enum Example {
     /// A plan of no lines.

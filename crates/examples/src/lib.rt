@@ -8,8 +8,8 @@ pub mod example;
 
 use example::Example;
 
-/// All worked examples, none left out. Each of them holds, and one run goes call by call as specs/Run.antt
-/// tells it.
+/// All worked examples, none left out. Each of them holds, and one run goes call by call as
+/// specs/Run.antt tells it.
 #[tactic(auto, using(crate::proofs::Examples::all_hold, crate::proofs::Examples::each_is_in))]
 pub fn hold() -> [Example; 10]
     ensures all { AllHold result }
