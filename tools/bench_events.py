@@ -12,7 +12,6 @@ from pathlib import Path
 
 CRATE = Path(__file__).resolve().parent.parent / "crates" / "stint"
 STINT = CRATE / "out" / "stint"
-EVENTS = int(sys.argv[1]) if len(sys.argv) > 1 else 1_000_000
 TASKS = 64
 RUNS = 5
 PLAN = "C,8\n" * 8 + "S,4\n" * 8 + "W\n" * 8 + "".join(f"T,{t % 8}\n" for t in range(TASKS))
@@ -28,9 +27,9 @@ def mixed():
     return row
 
 
-def made(row):
+def made(row, events):
     text = "\n".join(row) + "\n"
-    times = -(-EVENTS // len(row))
+    times = -(-events // len(row))
     return (PLAN + text * times).encode(), len(row) * times
 
 
@@ -53,8 +52,8 @@ def seconds(path):
         return time.perf_counter() - start
 
 
-def run(name, row):
-    data, count = made(row)
+def run(name, row, events):
+    data, count = made(row, events)
     with tempfile.NamedTemporaryFile() as file:
         file.write(data)
         file.flush()
@@ -62,8 +61,20 @@ def run(name, row):
     print(f"{name}: {count} lines in {took * 1000:.0f} ms, {count / took / 1e6:.2f} million a second, {took / count * 1e9:.0f} ns each; peak memory {peak(data)}")
 
 
-if not STINT.exists():
-    subprocess.run(["rt", "run"], cwd=CRATE, stdin=subprocess.DEVNULL, capture_output=True)
-run("mixed", mixed())
-run("ticks", ["K"])
-run("no events", ["?"])
+def built():
+    """The program, proved and built first if it is not there."""
+    if not STINT.exists():
+        subprocess.run(["rt", "run"], cwd=CRATE, stdin=subprocess.DEVNULL, capture_output=True, check=True)
+    return STINT
+
+
+def main():
+    built()
+    events = int(sys.argv[1]) if len(sys.argv) > 1 else 1_000_000
+    run("mixed", mixed(), events)
+    run("ticks", ["K"], events)
+    run("no events", ["?"], events)
+
+
+if __name__ == "__main__":
+    main()

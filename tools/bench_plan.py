@@ -21,11 +21,22 @@ def seconds(times):
     return took
 
 
-times = int(sys.argv[1]) if len(sys.argv) > 1 else 20000
-if not BENCH.exists():
-    # proves and builds it; the run itself finds no full.txt there
-    subprocess.run(["rt", "run", "--", "0"], cwd=CRATE, capture_output=True)
-size = (DATA / "full.txt").stat().st_size
-# the least of some runs, without what starting the program takes
-took = min(seconds(times) for _ in range(RUNS)) - min(seconds(0) for _ in range(RUNS))
-print(f"{size} bytes, {times} times: {1e6 * took / times:.1f} microseconds a reading and writing, {size * times / took / 1e6:.0f} MB/s")
+def built():
+    """The program, proved and built first if it is not there."""
+    if not BENCH.exists():
+        # the run itself finds no full.txt where it is started
+        subprocess.run(["rt", "run", "--", "0"], cwd=CRATE, capture_output=True)
+    return BENCH
+
+
+def main():
+    times = int(sys.argv[1]) if len(sys.argv) > 1 else 20000
+    built()
+    size = (DATA / "full.txt").stat().st_size
+    # the least of some runs, without what starting the program takes
+    took = min(seconds(times) for _ in range(RUNS)) - min(seconds(0) for _ in range(RUNS))
+    print(f"{size} bytes, {times} times: {1e6 * took / times:.1f} microseconds a reading and writing, {size * times / took / 1e6:.0f} MB/s")
+
+
+if __name__ == "__main__":
+    main()
