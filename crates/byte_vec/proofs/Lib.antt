@@ -1,2 +1,2 @@
 pub mod Filling
-pub mod Pushing
+pub mod Room

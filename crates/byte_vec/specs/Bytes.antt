@@ -1,17 +1,20 @@
 -- A list of at most n bytes, and what a change that may find no room does to it.
-use Rattle.std.specs.Prelude.{◌≡◌, ℕ, ◌+◌, ◌<◌, ◌≤◌, List, ◌++◌, length, Ok, Err, Some, None, Option, Result}
+use Rattle.std.specs.Prelude.{◌≡◌, ℕ, ◌+◌, List, ◌++◌, length, cond, nat_le, Ok, Err, Some, None, Option, Result}
 use Rattle.std.specs.List.{remove, slice_get}
 use Rattle.byte_vec.specs.declared.byte_vec.Full.{Full}
 
+-- the number of the refusal
+abbrev pub number : Full → ℕ
+number full = 23
+
+-- is there room for bytes more? where there is none, the number of the refusal
+abbrev pub no_room : ℕ → List ℕ → List ℕ → Option ℕ
+no_room n old bytes = cond (nat_le (length old + length bytes) n) None (Some 23)
+
 -- bytes more stand behind those that were there, or there is no room for them and nothing changed
 abbrev pub Appends : ℕ → List ℕ → List ℕ → Result (Unit {0}) Full → List ℕ → Type 0
-Appends n old bytes (Ok done) new = (length old + length bytes ≤ n) × (new ≡ old ++ bytes)
-Appends n old bytes (Err full) new = (n < length old + length bytes) × (new ≡ old)
-
--- the same where bytes are appended one part after another: an early refusal may leave some of them there
-abbrev pub Pushes : ℕ → List ℕ → List ℕ → Result (Unit {0}) Full → List ℕ → Type 0
-Pushes n old bytes (Ok done) new = (length old + length bytes ≤ n) × (new ≡ old ++ bytes)
-Pushes n old bytes (Err full) new = n < length old + length bytes
+Appends n old bytes (Ok done) new = (no_room n old bytes ≡ None) × (new ≡ old ++ bytes)
+Appends n old bytes (Err full) new = (no_room n old bytes ≡ Some (number full)) × (new ≡ old)
 
 -- the byte at a place is gone and answered, or there is none
 abbrev pub Removes : List ℕ → ℕ → Option ℕ → List ℕ → Type 0

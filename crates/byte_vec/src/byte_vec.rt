@@ -1,6 +1,6 @@
 ghost use Rattle.std.specs.Prelude.{◌≡◌, ◌≤◌, [], ◌∷◌, length};
 ghost use Rattle.std.specs.List.{slice_get};
-ghost use Rattle.byte_vec.specs.Bytes.{Appends, Removes};
+ghost use Rattle.byte_vec.specs.Bytes.{number, Appends, Removes};
 
 use std::marker::Model;
 
@@ -26,9 +26,18 @@ impl<const N: usize> Model for ByteVec<N> {
     ghost inverse_ok = { λ v h. made_again (λ ps n. record { places = ps; len = n }) N v.places v.len h };
 }
 
-/// There is no room for more.
+/// 23: there is no room for more bytes.
 #[derive(Clone, Copy, Debug, PartialEq, Eq)]
 pub struct Full;
+
+impl Full {
+    /// The number of the question answered no.
+    pub fn number(self) -> u32
+        ensures { result ≡ number self }
+    {
+        23
+    }
+}
 
 impl<const N: usize> ByteVec<N> {
     /// No bytes.

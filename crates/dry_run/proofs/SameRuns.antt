@@ -1,5 +1,5 @@
 -- Of one input one output: two dry runs that read the same lines from the same plan stand the same and have printed the same.
-use Rattle.std.proofs.Common.{◌≡◌, ℕ, List, [], ◌∷◌, ◌++◌, length, get_or, drop, Some, Ok, Err, sym, refl, ap, ◌∙◌, subst, arith}
+use Rattle.std.proofs.Common.{◌≡◌, ℕ, List, [], ◌∷◌, ◌++◌, length, get_or, drop, decimal, is_some, Some, Ok, Err, sym, refl, ap, ◌∙◌, subst, arith}
 use mathlib.Core.Path.{fun_ext}
 use Rattle.std.proofs.lemmas.List.{length_push}
 use Rattle.std.proofs.lemmas.Option.{none-some, same_Some}
@@ -7,7 +7,7 @@ use Rattle.bank.specs.Meaning.{Lists}
 use Rattle.controller.specs.Banks.{BankChanges}
 use Rattle.controller.specs.declared.controller.Controller.{Controller}
 use Rattle.event.specs.Answers.{event_of, line_text, unreadable_text}
-use Rattle.event.specs.Lines.{read_event}
+use Rattle.event.specs.Lines.{read_event, event_questions}
 use Rattle.event.specs.declared.event.Event.{Event}
 use Rattle.limits.specs.Lines.{limits_text}
 use Rattle.bank.specs.Questions.{Told}
@@ -18,6 +18,9 @@ use Rattle.rules.specs.Histories.{History}
 use Rattle.rules.specs.Jobs.{Setup, Snapshot}
 use Rattle.rules.specs.Moves.{Does, moved_task, one_more_if}
 use Rattle.rules.specs.declared.task.Task.{Task}
+use Rattle.text.specs.Questions.{ask, first_no}
+use Rattle.text.specs.Refusals.{number}
+use Rattle.text.specs.declared.refusal.Refusal.{Refusal}
 use Rattle.dry_run.specs.Banks.{Banks}
 use Rattle.dry_run.specs.Made.{meaning, setup, snapshot, MadeFrom, Step}
 use Rattle.dry_run.specs.Plays.{Replays, none, unreadable, answered, PrintedBy, Printed}
@@ -90,20 +93,29 @@ snoc_same (a ∷ more) (b ∷ bs) x y e =
     let rest = snoc_same more bs x y (ap (drop 1) e) in
     (ap (λ v. v ∷ more) (ap (λ l. get_or l 0 []) e) ∙ ap (λ vs. b ∷ vs) rest.0, rest.1)
 
+-- one number, one text
+unreadable_same : (a b : Refusal) → number a ≡ number b → unreadable_text a ≡ unreadable_text b
+unreadable_same a b e = cc
+
+-- a line of which an event is read is refused by no number
+event_read : (line : List ℕ) (event : Event) (why : Refusal) → read_event line ≡ Some event → first_no (event_questions line) ≡ Some (number why) → ⊥
+event_read line event why r u = none-some (number why) (sym (ap (λ o. first_no (ask 21 (is_some o) ∷ [])) r) ∙ u)
+
 replays_same : (c : Contents) (f g : Controller Banks meaning) → Same f g → (ls ms : List (List ℕ)) (h i : History) (k j : Controller Banks meaning) (o q : List ℕ) → Replays f ls h k o → Replays g ms i j q → ls ≡ ms → Same k j × (o ≡ q)
 replays_same c f g same _ _ _ _ _ _ _ _ none none e = (same, refl)
-replays_same c f g same _ _ _ _ _ _ _ _ none (unreadable {lines} line r u) e = absurd (omega (arith, length_push lines line, ap length e))
+replays_same c f g same _ _ _ _ _ _ _ _ none (unreadable {lines} line why r u) e = absurd (omega (arith, length_push lines line, ap length e))
 replays_same c f g same _ _ _ _ _ _ _ _ none (answered {lines} line event call next r u of step) e = absurd (omega (arith, length_push lines line, ap length e))
-replays_same c f g same _ _ _ _ _ _ _ _ (unreadable {lines} line r u) none e = absurd (omega (arith, length_push lines line, ap length e))
+replays_same c f g same _ _ _ _ _ _ _ _ (unreadable {lines} line why r u) none e = absurd (omega (arith, length_push lines line, ap length e))
 replays_same c f g same _ _ _ _ _ _ _ _ (answered {lines} line event call next r u of step) none e = absurd (omega (arith, length_push lines line, ap length e))
-replays_same c f g same _ _ _ _ _ _ _ _ (unreadable line r u) (unreadable other s w) e =
+replays_same c f g same _ _ _ _ _ _ _ _ (unreadable line why r u) (unreadable {out = q} other why2 s w) e =
     let parts = snoc_same _ _ line other e in
     let before = replays_same c f g same _ _ _ _ _ _ _ _ r s parts.0 in
-    (before.0, ap (λ x. x ++ unreadable_text) before.1)
-replays_same c f g same _ _ _ _ _ _ _ _ (unreadable line r u) (answered other event call next s w of step) e =
-    let parts = snoc_same _ _ line other e in absurd (none-some event (sym u ∙ (ap read_event parts.1 ∙ w)))
-replays_same c f g same _ _ _ _ _ _ _ _ (answered line event call next r u of step) (unreadable other s w) e =
-    let parts = snoc_same _ _ line other e in absurd (none-some event (sym w ∙ (ap read_event (sym parts.1) ∙ u)))
+    let one : number why ≡ number why2 = same_Some _ _ (sym u ∙ (ap (λ l. first_no (event_questions l)) parts.1 ∙ w)) in
+    (before.0, ap (λ x. x ++ unreadable_text why) before.1 ∙ ap (λ x. q ++ x) (unreadable_same why why2 one))
+replays_same c f g same _ _ _ _ _ _ _ _ (unreadable line why r u) (answered other event call next s w of step) e =
+    let parts = snoc_same _ _ line other e in absurd (event_read line event why (ap read_event parts.1 ∙ w) u)
+replays_same c f g same _ _ _ _ _ _ _ _ (answered line event call next r u of step) (unreadable other why s w) e =
+    let parts = snoc_same _ _ line other e in absurd (event_read other event why (ap read_event (sym parts.1) ∙ u) w)
 replays_same c f g same _ _ _ _ _ _ _ _ (answered {k = k} line event call next r u of step) (answered {k = j} {out = q} other event2 call2 next2 s w of2 step2) e =
     let parts = snoc_same _ _ line other e in
     let before = replays_same c f g same _ _ _ _ _ _ _ _ r s parts.0 in

@@ -1,12 +1,13 @@
 -- What each byte makes of a dry run.
-use Rattle.std.proofs.Common.{◌≡◌, ℕ, ◌+◌, ◌<◌, ◌≤◌, Bool, true, false, ◌&&◌, eqb, List, [], ◌∷◌, ◌++◌, length, take, drop, Some, None, Ok, Err, Result, Option, unwrap_or, sym, refl, ap, ◌∙◌, subst, append_assoc, append-nil, add-zero, arith, length-append}
+use Rattle.std.proofs.Common.{◌≡◌, ℕ, ◌+◌, ◌<◌, ◌≤◌, Bool, true, false, ◌&&◌, eqb, List, [], ◌∷◌, ◌++◌, length, take, drop, Some, None, Ok, Err, Result, unwrap_or, is_some, sym, refl, ap, ◌∙◌, subst, append_assoc, append-nil, add-zero, arith, length-append}
 use Rattle.std.proofs.lemmas.List.{length_push, drop_at}
 use Rattle.byte_vec.specs.Bytes.{Appends}
+use Rattle.byte_vec.proofs.Room.{has_room, lacks_room}
 use Rattle.byte_vec.specs.declared.byte_vec.Full.{Full}
 use Rattle.controller.specs.declared.controller.Controller.{Controller}
 use Rattle.dry_run.specs.Banks.{Banks}
 use Rattle.event.specs.Answers.{unreadable_text}
-use Rattle.event.specs.Lines.{read_event}
+use Rattle.event.specs.Lines.{read_event, event_questions, ReadsEvent}
 use Rattle.event.specs.declared.event.Event.{Event}
 use Rattle.limits.specs.Lines.{limits_text}
 use Rattle.plan.specs.Contents.{Contents}
@@ -16,6 +17,9 @@ use Rattle.rules.specs.Histories.{History}
 use Rattle.rules.specs.Runs.{LawfulRun, moment}
 use Rattle.text.specs.Lines.{lines_of}
 use Rattle.text.specs.Memory.{overlay}
+use Rattle.text.specs.Questions.{ask, first_no}
+use Rattle.text.specs.declared.refusal.Refusal.{Refusal}
+use Rattle.text.specs.declared.refusal.Refusal.TheVariants.{NotEvent}
 use Rattle.text.proofs.Writes.{overlay_none, overlay_more}
 use Rattle.dry_run.specs.Fed.{Planning, Replaying, FedIn, Fed, Laid, Takes, Ends}
 use Rattle.dry_run.specs.Steps.{LineDone}
@@ -100,31 +104,39 @@ module _ (text i o : List ℕ) (planning : Planning text true i o) where
 
 -- THE EVENTS
 
+-- lines that read the same are refused by the same questions
+refuses_same : (a b : List ℕ) → read_event a ≡ read_event b → first_no (event_questions a) ≡ first_no (event_questions b)
+refuses_same a b e = ap (λ o. first_no (ask 21 (is_some o) ∷ [])) e
+
+reads_same : (a b : List ℕ) → read_event a ≡ read_event b → (r : Result Event Refusal) → ReadsEvent a r → ReadsEvent b r
+reads_same a b e (Ok event) w = (sym (refuses_same a b e) ∙ w.0, sym e ∙ w.1)
+reads_same a b e (Err why) w = sym (refuses_same a b e) ∙ w
+
 -- a run goes on by one line
 module _ (c : Contents) (k next : Controller Banks meaning) (lines : List (List ℕ)) (o : List ℕ) (p : Plays c k lines o) (line printed : List ℕ) where
   longer : o ++ printed ≡ limits_text (plan_told c) c ++ (p.answers ++ printed)
   longer = ap (λ xs. xs ++ printed) p.printed ∙ append_assoc (limits_text (plan_told c) c) p.answers printed
 
-  pub plays_more : (e : Option Event) → read_event line ≡ e → LineDone k e printed next → Plays c next (lines ++ (line ∷ [])) (o ++ printed)
-  plays_more None r (text, same) =
+  pub plays_more : (e : Result Event Refusal) → ReadsEvent line e → LineDone k e printed next → Plays c next (lines ++ (line ∷ [])) (o ++ printed)
+  plays_more (Err why) r (text, same) =
       let more : Plays c k (lines ++ (line ∷ [])) (o ++ printed) = record {
         begins = p.begins;
         controller = p.controller;
         history = p.history;
         run = p.run;
         answers = p.answers ++ printed;
-        replays = subst (λ x. Replays p.begins (lines ++ (line ∷ [])) p.history k (p.answers ++ x)) (sym text) (unreadable line p.replays r);
+        replays = subst (λ x. Replays p.begins (lines ++ (line ∷ [])) p.history k (p.answers ++ x)) (sym text) (unreadable line why p.replays r);
         printed = longer;
       } in
       subst (λ x. Plays c x (lines ++ (line ∷ [])) (o ++ printed)) (sym same) more
-  plays_more (Some e) r (call, of, text, follows, step) =
+  plays_more (Ok e) r (call, of, text, follows, step) =
       record {
         begins = p.begins;
         controller = p.controller;
         history = moment call (snapshot next) ∷ p.history;
         run = subst (λ x. LawfulRun x (snapshot next) (moment call (snapshot next) ∷ p.history)) (sym step.same) (follows p.history p.run.runs);
         answers = p.answers ++ printed;
-        replays = subst (λ x. Replays p.begins (lines ++ (line ∷ [])) (moment call (snapshot next) ∷ p.history) next (p.answers ++ x)) (sym text) (answered line e call next p.replays r of step);
+        replays = subst (λ x. Replays p.begins (lines ++ (line ∷ [])) (moment call (snapshot next) ∷ p.history) next (p.answers ++ x)) (sym text) (answered line e call next p.replays r.1 of step);
         printed = longer;
       }
 
@@ -159,15 +171,15 @@ module _ (controller : Controller Banks meaning) (kept i o : List ℕ) (replayin
       event_keeps kept b plain (replaying.held ∙ front_stays replaying.line b (omega (arith, ap length replaying.held)))
 
   pub event_pushed : (b : ℕ) (done : Result (Unit {0}) Full) (front : List ℕ) → eqb b 10 ≡ false → Appends 16 kept (b ∷ []) done front → Replaying controller front (i ++ (b ∷ [])) (o ++ [])
-  event_pushed b (Ok done) front plain (few, e) = subst (λ x. Replaying controller x (i ++ (b ∷ [])) (o ++ [])) (sym e) (event_grows b plain few)
-  event_pushed b (Err why) front plain (many, e) = subst (λ x. Replaying controller x (i ++ (b ∷ [])) (o ++ [])) (sym e) (event_stays b plain many)
+  event_pushed b (Ok done) front plain (room, e) = subst (λ x. Replaying controller x (i ++ (b ∷ [])) (o ++ [])) (sym e) (event_grows b plain (has_room 16 kept (b ∷ []) room))
+  event_pushed b (Err full) front plain (room, e) = subst (λ x. Replaying controller x (i ++ (b ∷ [])) (o ++ [])) (sym e) (event_stays b plain (lacks_room 16 kept (b ∷ []) 23 room))
 
   -- a newline
-  pub event_line : (after : Controller Banks meaning) (printed : List ℕ) → LineDone controller (read_event (kept ++ (10 ∷ []))) printed after → Replaying after [] (i ++ (10 ∷ [])) (o ++ printed)
-  event_line after printed does =
+  pub event_line : (after : Controller Banks meaning) (printed : List ℕ) (e : Result Event Refusal) → ReadsEvent (kept ++ (10 ∷ [])) e → LineDone controller e printed after → Replaying after [] (i ++ (10 ∷ [])) (o ++ printed)
+  event_line after printed e reads does =
       let line : List ℕ = replaying.line ++ (10 ∷ []) in
       let read : read_event (kept ++ (10 ∷ [])) ≡ read_event line = ap (λ xs. read_event (xs ++ (10 ∷ []))) replaying.held ∙ reads_front replaying.line in
-      let on = plays_more replaying.contents controller after replaying.lines o replaying.plays line printed (read_event line) refl (subst (λ e. LineDone controller e printed after) read does) in
+      let on = plays_more replaying.contents controller after replaying.lines o replaying.plays line printed e (reads_same (kept ++ (10 ∷ [])) line read e reads) does in
       record {
         text = replaying.text;
         contents = replaying.contents;
@@ -205,7 +217,7 @@ takes_more d e f p q old middle mid end new room x y =
 
 no_lines : (first : Controller Banks meaning) (lines : List (List ℕ)) (h : History) (k : Controller Banks meaning) (out : List ℕ) → Replays first lines h k out → lines ≡ [] → out ≡ []
 no_lines first _ _ _ _ none e = refl
-no_lines first _ _ _ _ (unreadable {lines} line r u) e = absurd (omega (arith, length_push lines line, ap length e))
+no_lines first _ _ _ _ (unreadable {lines} line why r u) e = absurd (omega (arith, length_push lines line, ap length e))
 no_lines first _ _ _ _ (answered {lines} line event call next r u of step) e = absurd (omega (arith, length_push lines line, ap length e))
 
 -- with nothing behind the plan
@@ -246,15 +258,15 @@ module _ (controller : Controller Banks meaning) (kept i o : List ℕ) (r : Repl
       from (b ∷ bs) e = absurd (omega (arith, ap length (r.held ∙ ap (take 16) e)))
 
   -- a last line has no newline
-  pub end_line : 0 < length kept → Printed i (o ++ unreadable_text)
+  pub end_line : 0 < length kept → Printed i (o ++ unreadable_text NotEvent)
   end_line some = from r.line refl
     where
-      from : (line : List ℕ) → r.line ≡ line → Printed i (o ++ unreadable_text)
+      from : (line : List ℕ) → r.line ≡ line → Printed i (o ++ unreadable_text NotEvent)
       from [] e = absurd (omega (arith, ap length (r.held ∙ ap (take 16) e)))
       from (b ∷ bs) e =
           let plain : Plain (b ∷ bs) = subst Plain e r.plain in
-          printed_with (r.lines ++ ((b ∷ bs) ∷ [])) (o ++ unreadable_text) (lines_all ∙ (ap (λ xs. r.lines ++ lines_of xs) e ∙ ap (λ xs. r.lines ++ xs) (plain_last b bs plain)))
-          (plays_more r.contents controller controller r.lines o r.plays (b ∷ bs) unreadable_text None (plain_unread (b ∷ bs) plain) (refl, refl))
+          printed_with (r.lines ++ ((b ∷ bs) ∷ [])) (o ++ unreadable_text NotEvent) (lines_all ∙ (ap (λ xs. r.lines ++ lines_of xs) e ∙ ap (λ xs. r.lines ++ xs) (plain_last b bs plain)))
+          (plays_more r.contents controller controller r.lines o r.plays (b ∷ bs) (unreadable_text NotEvent) (Err NotEvent) (ap (λ o. first_no (ask 21 (is_some o) ∷ [])) (plain_unread (b ∷ bs) plain)) (refl, refl))
 
 pub end_over : (i o : List ℕ) → FedIn Over i o → Printed i (o ++ [])
 end_over i o fed = subst (λ x. Printed x (o ++ [])) (append-nil i) (subst (Printed (i ++ [])) (sym (append-nil o)) (fed []))

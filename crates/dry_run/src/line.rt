@@ -5,6 +5,7 @@ ghost use Rattle.dry_run.specs.Fed.{Laid};
 ghost use Rattle.dry_run.specs.Steps.{line_size, LineTaken};
 ghost use Rattle.dry_run.specs.Made.{setup, snapshot, Step};
 
+use byte_vec::byte_vec::ByteVec;
 use controller::controller::Controller;
 use event::answered::Answered;
 use event::event::Event;
@@ -12,6 +13,8 @@ use pair::pair::Pair;
 use readers_writers::lines::ReadersWriters;
 use slots::slots::Slots;
 use text::memory::write_bytes;
+use text::number::push_field;
+use text::refusal::Refusal;
 
 // Puts an event to the controller.
 fn call(controller: &mut Controller<Pair<Slots, ReadersWriters>>, event: Event) -> Answered
@@ -47,18 +50,31 @@ fn lay_answered(answered: Answered, out: &mut [u8], at: usize) -> usize
     answered.write(out, at).unwrap()
 }
 
-// Lays the line of what is no event.
-pub(crate) fn lay_unreadable(out: &mut [u8], at: usize) -> usize
-    requires { at + 8 ≤ length out.old }
-    ensures { Laid out.old at unreadable_text result out.new }
+// The line of what is no event.
+#[tactic(auto, using(crate::proofs::Printed::unreadable_size))]
+fn unreadable_line(why: Refusal) -> ByteVec<64>
+    ensures text { result ≡ unreadable_text why }
+    ensures few { length result ≤ 8 }
 {
-    write_bytes(out, at, b"?,no,21\n").unwrap()
+    let mut line = ByteVec::new();
+    line.extend_from_slice(b"?,no,").unwrap();
+    push_field(&mut line, why.number() as u64, b"\n").unwrap();
+    line
 }
 
-// Answers the event that a line is, if it is one, and lays what is printed of it.
+// Lays the line of what is no event.
+pub(crate) fn lay_unreadable(why: Refusal, out: &mut [u8], at: usize) -> usize
+    requires { at + 8 ≤ length out.old }
+    ensures laid { Laid out.old at (unreadable_text why) result out.new }
+    ensures few { result ≤ at + 8 }
+{
+    write_bytes(out, at, unreadable_line(why).as_slice()).unwrap()
+}
+
+// Answers the event that a line is, or its refusal where it is none, and lays what is printed of it.
 pub(crate) fn answer_line(
     controller: &mut Controller<Pair<Slots, ReadersWriters>>,
-    event: Option<Event>,
+    event: Result<Event, Refusal>,
     out: &mut [u8],
     at: usize,
 ) -> usize
@@ -66,7 +82,7 @@ pub(crate) fn answer_line(
     ensures { LineTaken controller.old controller.new event out.old at result out.new }
 {
     match event {
-        Some(event) => lay_answered(call(controller, event), out, at),
-        None => lay_unreadable(out, at),
+        Ok(event) => lay_answered(call(controller, event), out, at),
+        Err(why) => lay_unreadable(why, out, at),
     }
 }

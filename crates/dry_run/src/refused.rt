@@ -1,10 +1,10 @@
 ghost use Rattle.std.specs.Prelude.{◌≡◌, ◌≤◌, length};
-ghost use Rattle.byte_vec.specs.Bytes.{Pushes};
+ghost use Rattle.text.specs.Memory.{Pushes};
 ghost use Rattle.text.specs.Refusals.{number};
 ghost use Rattle.dry_run.specs.Fed.{Laid};
 ghost use Rattle.dry_run.specs.Said.{refused_text};
 
-use byte_vec::byte_vec::{ByteVec, Full};
+use byte_vec::byte_vec::ByteVec;
 use plan::draft::Refused;
 use text::memory::write_bytes;
 use text::number::push_field;
@@ -12,7 +12,7 @@ use text::refusal::Refusal;
 
 // The line of a refused plan, as far as there is room.
 #[tactic(auto, using(crate::proofs::Printed::refused_size))]
-fn push_refused(line: &mut ByteVec<64>, question: u32, number: usize) -> Result<(), Full>
+fn push_refused(line: &mut ByteVec<64>, question: u32, number: usize) -> Result<(), Refusal>
     ensures text { Pushes 64 line.old (refused_text question number) result line.new }
     ensures few { length (refused_text question number) ≤ 50 }
 {

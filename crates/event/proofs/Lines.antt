@@ -100,6 +100,14 @@ size_text (Give t) small = simp length-append (omega (arith, size_number t small
 size_text (Finish t) small = simp length-append (omega (arith, size_number t small))
 size_text Tick small = omega arith
 
+-- a line of which an event was read is at most sixteen bytes
+pub size_of : (line : List ℕ) (e : Event) → read_event line ≡ Some e → length line ≤ 16
+size_of line e r = from (read_event line) r (event_of_lem line)
+  where
+    from : (o : Option Event) → o ≡ Some e → EventOf line o → length line ≤ 16
+    from None f w = let n : ◌≡◌ {A = ℕ} 0 1 = cc in absurd (omega arith)
+    from (Some i) f w = omega (arith, size_text i w.0, ap length w.1)
+
 -- a longer line is no event
 pub long_none : (line : List ℕ) → 16 < length line → read_event line ≡ None
 long_none line long = from (read_event line) (event_of_lem line)

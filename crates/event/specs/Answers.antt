@@ -7,6 +7,8 @@ use Rattle.rules.specs.declared.answer.Asked.TheVariants.{Hold, Wait, Back}
 use Rattle.rules.specs.declared.answer.Finished.{Finished}
 use Rattle.rules.specs.declared.answer.Issued.{Issued}
 use Rattle.rules.specs.declared.refusal.Refusal.{Refusal}
+use Rattle.text.specs.Refusals.{number as number_of}
+use Rattle.text.specs.declared.refusal.Refusal.{Refusal as Unread}
 use Rattle.event.specs.Lines.{event_then, event_text}
 use Rattle.event.specs.declared.answered.Answered.{Answered}
 use Rattle.event.specs.declared.answered.Answered.TheVariants as answered
@@ -79,9 +81,9 @@ line_text (gave t x) = event_then (Give t) (44 ∷ number_text x)
 line_text (finished t x) = event_then (Finish t) (44 ∷ finished_text x)
 line_text (ticked x) = event_then Tick (44 ∷ number_text x)
 
--- what is printed of a line that is no event
-abbrev pub unreadable_text : List ℕ
-unreadable_text = codes "?,no,21" ++ (10 ∷ [])
+-- what is printed of a line that is no event: `?,no,` and the number of its refusal
+abbrev pub unreadable_text : Unread → List ℕ
+unreadable_text why = codes "?,no," ++ (decimal (number_of why) ++ (10 ∷ []))
 
 -- the size of a call's event line
 abbrev pub event_size : Call → ℕ

@@ -1,5 +1,8 @@
 -- An event and its line: the five forms.
-use Rattle.std.specs.Prelude.{◌≡◌, ℕ, ◌<◌, cond, List, [], ◌∷◌, ◌++◌, Some, None, codes, decimal, Option, ◌==◌, ◌≢◌}
+use Rattle.std.specs.Prelude.{◌≡◌, ℕ, ◌<◌, cond, List, [], ◌∷◌, ◌++◌, is_some, Some, None, Ok, Err, codes, decimal, Option, Result, ◌==◌, ◌≢◌}
+use Rattle.text.specs.Questions.{Question, ask, first_no}
+use Rattle.text.specs.Refusals.{number}
+use Rattle.text.specs.declared.refusal.Refusal.{Refusal}
 use Rattle.bank.specs.declared.request.Mode.{Mode}
 use Rattle.bank.specs.declared.request.Mode.TheVariants.{Write, Read}
 use Rattle.item.specs.Lines.{read_field, is_newline}
@@ -78,3 +81,12 @@ Writable Tick = Unit {0}
 abbrev pub IsLineOf : List ℕ → Option Event → Type 0
 IsLineOf line None = (e : Event) → Writable e → line ≢ event_text e
 IsLineOf line (Some e) = Writable e × (line ≡ event_text e)
+
+-- is the line an event, its newline and at most sixteen bytes included?
+abbrev pub event_questions : List ℕ → List Question
+event_questions line = ask 21 (is_some (read_event line)) ∷ []
+
+-- the event of a line was read, or the line is refused
+abbrev pub ReadsEvent : List ℕ → Result Event Refusal → Type 0
+ReadsEvent line (Ok e) = (first_no (event_questions line) ≡ None) × (read_event line ≡ Some e)
+ReadsEvent line (Err why) = first_no (event_questions line) ≡ Some (number why)

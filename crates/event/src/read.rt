@@ -1,9 +1,11 @@
-ghost use Rattle.std.specs.Prelude.{◌≡◌};
-ghost use Rattle.event.specs.Lines.{mode_of, read_mode, read_ask, read_form, read_event, IsLineOf};
+ghost use Rattle.std.specs.Prelude.{◌≡◌, ◌≤◌, length, OnOk};
+ghost use Rattle.std.specs.Result.{result_ok};
+ghost use Rattle.event.specs.Lines.{mode_of, read_mode, read_ask, read_form, read_event, IsLineOf, ReadsEvent};
 
 use crate::event::Event;
 use bank::request::Mode;
 use item::field::{is_newline, read_field, read_last};
+use text::refusal::Refusal;
 
 // The mode that a letter is. No `TryFrom`: a crate may write it for a type of its own alone, and the mode is bank's.
 fn letter_mode(letter: u8) -> Option<Mode>
@@ -64,13 +66,13 @@ fn parse(line: &[u8]) -> Option<Event>
 }
 
 impl Event {
-    /// The event that a line with its newline is, if it has one of the five forms.
-    // `TryFrom` is no plainer: a line is no event in one way alone, so its error would be a type that says nothing.
-    #[tactic(auto, using(crate::proofs::Lines::is_line_of))]
-    pub fn read(line: &[u8]) -> Option<Event>
-        ensures value { result ≡ read_event line.now }
-        ensures image { IsLineOf line.now result }
+    /// The event that a line with its newline is, if it has one of the five forms; a line that has none is refused by 21.
+    #[tactic(auto, using(crate::proofs::Lines::is_line_of, crate::proofs::Lines::size_of))]
+    pub fn read(line: &[u8]) -> Result<Event, Refusal>
+        ensures reads { ReadsEvent line.now result }
+        ensures image { IsLineOf line.now (result_ok result) }
+        ensures few { OnOk result (length line.now ≤ 16) }
     {
-        parse(line)
+        parse(line).ok_or(Refusal::NotEvent)
     }
 }

@@ -1,17 +1,18 @@
 ghost use Rattle.std.specs.Prelude.{◌≤◌, length};
-ghost use Rattle.byte_vec.specs.Bytes.{Pushes};
+ghost use Rattle.text.specs.Memory.{Pushes};
 ghost use Rattle.limits.specs.Lines.{read_field, limit_line};
 
-use byte_vec::byte_vec::{ByteVec, Full};
+use byte_vec::byte_vec::ByteVec;
 use text::number::push_field;
+use text::refusal::Refusal;
 
 // The last field of a line and its newline.
-fn push_read(text: &mut ByteVec<1040>, read: Option<u64>) -> Result<(), Full>
+fn push_read(text: &mut ByteVec<1040>, read: Option<u64>) -> Result<(), Refusal>
     ensures { Pushes 1040 text.old (read_field read) result text.new }
 {
     match read {
         Some(n) => push_field(text, n, b"\n"),
-        None => text.extend_from_slice(b"-\n"),
+        None => Ok(text.extend_from_slice(b"-\n")?),
     }
 }
 
@@ -21,7 +22,7 @@ pub(crate) fn push_line(
     resource: u32,
     write: u64,
     read: Option<u64>,
-) -> Result<(), Full>
+) -> Result<(), Refusal>
     ensures { Pushes 1040 text.old (limit_line resource write read) result text.new }
 {
     text.extend_from_slice(b"B,")?;

@@ -1,13 +1,12 @@
 ghost use Rattle.std.specs.Prelude.{◌≡◌, ℕ, ◌+◌, ◌<◌, ◌≤◌, true, ◌++◌, length, drop, Some, None, decimal, slice_index};
 ghost use Rattle.std.specs.Char.{is_ascii_digit};
 ghost use Rattle.std.specs.List.{prefix_len};
-ghost use Rattle.byte_vec.specs.Bytes.{Appends};
 ghost use Rattle.text.specs.Numbers.{value_of, read_number, IsWritten, ReadsBack};
-ghost use Rattle.text.specs.Memory.{Writes};
+ghost use Rattle.text.specs.Memory.{Writes, Appends};
 
 use crate::memory::{put_bytes, write_bytes};
 use crate::refusal::Refusal;
-use byte_vec::byte_vec::{ByteVec, Full};
+use byte_vec::byte_vec::ByteVec;
 use itoa::Buffer;
 
 // How many digits stand at the head of a text.
@@ -105,14 +104,18 @@ pub fn write_field(out: &mut [u8], at: usize, n: u64, behind: &[u8]) -> Result<u
 }
 
 /// Appends a number and the bytes behind it.
-pub fn push_field<const N: usize>(line: &mut ByteVec<N>, n: u64, behind: &[u8]) -> Result<(), Full>
+pub fn push_field<const N: usize>(
+    line: &mut ByteVec<N>,
+    n: u64,
+    behind: &[u8],
+) -> Result<(), Refusal>
     ensures { Appends N line.old (decimal n ++ behind.now) result line.new }
 {
     let mut buffer = Buffer::new();
     let digits = buffer.format(n).as_bytes();
     if N - line.len() < digits.len() + behind.len() {
-        return Err(Full);
+        return Err(Refusal::Memory);
     }
     line.extend_from_slice(digits)?;
-    line.extend_from_slice(behind)
+    Ok(line.extend_from_slice(behind)?)
 }

@@ -1,7 +1,10 @@
 ghost use Rattle.std.specs.Prelude.{◌≡◌};
 ghost use Rattle.text.specs.Refusals.{number};
 
-/// Why a plan's text is refused. Each case has one number, that of the question answered no.
+use byte_vec::byte_vec::Full;
+
+/// Why a line or a text is refused, or the memory handed in for one. Each case has one number, that of the question
+/// answered no.
 #[derive(Clone, Copy, Debug, PartialEq, Eq)]
 pub enum Refusal {
     /// 16: the line has none of the five forms.
@@ -14,6 +17,8 @@ pub enum Refusal {
     Full,
     /// 20: a cluster, a resource or a task is missing.
     Incomplete,
+    /// 21: the line is no event.
+    NotEvent,
     /// 22: no empty line ends the plan in time.
     NoEnd,
     /// 23: the text does not fit the memory handed in.
@@ -32,8 +37,20 @@ impl Refusal {
             Refusal::Limits => 18,
             Refusal::Full => 19,
             Refusal::Incomplete => 20,
+            Refusal::NotEvent => 21,
             Refusal::NoEnd => 22,
             Refusal::Memory => 23,
         }
+    }
+}
+
+/// No room in a list of bytes is no room for the text: both have the number 23.
+impl From<Full> for Refusal {
+    ghost use Rattle.byte_vec.specs.Bytes.{number as number_of_full};
+
+    ghost from_gives = { λ full why. number why ≡ number_of_full full };
+
+    fn from(_full: Full) -> Self {
+        Self::Memory
     }
 }

@@ -45,7 +45,7 @@ impl DryRun {
                 if line.len() == 0 {
                     return 0;
                 }
-                lay_unreadable(out, 0)
+                lay_unreadable(Refusal::NotEvent, out, 0)
             }
             Phase::Over => 0,
         }

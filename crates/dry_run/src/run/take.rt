@@ -1,6 +1,6 @@
 ghost use Rattle.std.specs.Prelude.{◌≡◌, ◌+◌, ◌*◌, ◌≤◌, true, [], ◌∷◌, ◌++◌, length};
 ghost use Rattle.byte_vec.specs.Bytes.{Appends};
-ghost use Rattle.event.specs.Lines.{read_event};
+ghost use Rattle.event.specs.Lines.{ReadsEvent};
 ghost use Rattle.limits.specs.Lines.{limits_text};
 ghost use Rattle.plan.specs.Of.{plan_contents};
 ghost use Rattle.dry_run.specs.Fed.{run_in, phase_behind, Laid, Takes};
@@ -22,6 +22,7 @@ use plan::plan::Plan;
 use plan_text::read::read;
 use readers_writers::lines::ReadersWriters;
 use slots::slots::Slots;
+use text::refusal::Refusal;
 
 // The plan is accepted: its controller, and the end of the wait limits.
 fn accept(plan: &Plan, out: &mut [u8]) -> (Controller<Pair<Slots, ReadersWriters>>, usize)
@@ -55,12 +56,14 @@ fn behind_plan(
 }
 
 // The event that a line is with its newline. One that has no room for it is longer than any event.
-fn line_event(mut line: ByteVec<16>) -> Option<Event>
-    ensures value { result ≡ read_event (line ++ (10 ∷ [])) }
+fn line_event(mut line: ByteVec<16>) -> Result<Event, Refusal>
+    ensures reads { ReadsEvent (line ++ (10 ∷ [])) result }
     ensures size { 10 * line_size result ≤ line_reserve line + 10 }
 {
-    line.push(b'\n').ok()?;
-    Event::read(line.as_slice())
+    match line.push(b'\n') {
+        Ok(()) => Event::read(line.as_slice()),
+        Err(Full) => Err(Refusal::NotEvent),
+    }
 }
 
 // A byte of the events.

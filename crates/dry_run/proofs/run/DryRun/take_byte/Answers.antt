@@ -1,5 +1,6 @@
-use Rattle.std.proofs.Common.{◌≡◌, false, ◌&&◌, eqb, [], sym, ap, subst}
+use Rattle.std.proofs.Common.{◌≡◌, false, ◌&&◌, eqb, [], ◌∷◌, sym, ap, subst}
 use Rattle.std.proofs.lemmas.Bool.{ne_eqb}
+use Rattle.byte_vec.proofs.Room.{has_room, lacks_room}
 use Rattle.dry_run.specs.Said.{refused_text}
 use Rattle.dry_run.specs.Fed.{Laid}
 use Rattle.dry_run.specs.Steps.{WaitsIn}
@@ -16,7 +17,7 @@ returns-in-Ok-clause-takes c =
     rw c.in-Ok.ensures.1 (record {
       printed = [];
       laid = subst (λ at. Laid c.args.out.now at [] 0 c.args.out.now) (sym start) (laid_none c.args.out.now 0);
-      law = λ i o fed. plan_keeps p.text p.begins i o (into c.args.self.now.phase (Plan p.text p.begins) p.is i o fed) c.args.b c.in-Ok.ensures.0 more;
+      law = λ i o fed. plan_keeps p.text p.begins i o (into c.args.self.now.phase (Plan p.text p.begins) p.is i o fed) c.args.b (has_room 16383 p.text (c.args.b ∷ []) c.in-Ok.ensures.0) more;
     })
 
 pub returns-in-Err-clause-takes : goal.returns-in-Err-clause-takes
@@ -27,7 +28,7 @@ returns-in-Err-clause-takes c =
     rw c.refuse.ensures.over (record {
       printed = refused_text 22 0;
       laid = subst (λ at. Laid c.args.out.now at (refused_text 22 0) c.refuse.result c.refuse.new.out) (sym start) c.refuse.ensures.laid;
-      law = λ i o fed. plan_full p.text p.begins i o (into c.args.self.now.phase (Plan p.text p.begins) p.is i o fed) c.args.b c.in-Err.ensures.0 more;
+      law = λ i o fed. plan_full p.text p.begins i o (into c.args.self.now.phase (Plan p.text p.begins) p.is i o fed) c.args.b (lacks_room 16383 p.text (c.args.b ∷ []) 23 c.in-Err.ensures.0) more;
     })
 
 pub returns-in-Over-clause-takes : goal.returns-in-Over-clause-takes

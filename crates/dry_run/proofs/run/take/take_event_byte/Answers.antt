@@ -1,7 +1,6 @@
-use Rattle.std.proofs.Common.{[], ◌∷◌, subst}
+use Rattle.std.proofs.Common.{[], ◌∷◌}
 use Rattle.std.proofs.lemmas.Bool.{ne_eqb}
 use Rattle.dry_run.specs.Fed.{run_in, Takes}
-use Rattle.dry_run.specs.Steps.{LineDone}
 use Rattle.dry_run.specs.declared.run.Phase.TheVariants.{Events}
 use Rattle.dry_run.proofs.Steps.{laid_none, event_line, event_pushed}
 use Rattle.dry_run.proofs.run.take.take_event_byte.Goals as goal
@@ -18,10 +17,9 @@ returns-clause-takes c =
     let was = c.args.controller.now in
     let after = c.answer_line.new.controller in
     let e = c.answer_line.ensures in
-    let does = subst (λ v. LineDone was v e.printed after) c.line_event-event.ensures.value e.does in
     let takes : Takes (run_in (Events was c.args.line.now)) (run_in (Events after [])) (10 ∷ []) c.args.out.now c.args.at c.answer_line.result c.answer_line.new.out = record {
       printed = e.printed;
       laid = e.laid;
-      law = λ i o fed. event_line was c.args.line.now i o fed after e.printed does;
+      law = λ i o fed. event_line was c.args.line.now i o fed after e.printed c.line_event-event.result c.line_event-event.ensures.reads e.does;
     } in
     rw (c.if-b-ne10.false, c.new.ensures) takes
