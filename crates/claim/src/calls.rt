@@ -35,7 +35,7 @@ pub fn ask<B: Bank>(
 fn give_back<B: Bank>(
     controller: &mut Controller<B>,
     claim: Claim,
-) -> Result<Result<u32, Refusal>, Claim>
+) -> Result<Result<u32, Refusal>, (Claim, Refusal)>
     ensures setup { setup_of B.Bank controller.new ≡ setup_of B.Bank controller.old }
     ensures does { Does (setup_of B.Bank controller.old) (snapshot_of B.Bank controller.old) (gave claim.task (gave_of result)) (snapshot_of B.Bank controller.new) }
     ensures bank { BankChanges B.Bank (snapshot_of B.Bank controller.old) (gave claim.task (gave_of result)) controller.old.bank controller.new.bank }
@@ -44,18 +44,18 @@ fn give_back<B: Bank>(
 {
     let task = claim.task();
     if controller.is_pending(task) {
-        return Err(claim);
+        return Err((claim, Refusal::NotHolding));
     }
     claim.spend();
     Ok(controller.give(task))
 }
 
-/// The same call as the controller's `give` of the claim's task, and spends the claim; where the task waits or is held
-/// back, that call is refused with 9, and the claim is handed back as the error.
+/// The same call as the controller's `give` of the claim's task: answers the ticks for which it held, and spends the claim.
+/// Where the task waits or is held back, nothing changes, and the claim comes back with the refusal, whose number is 9.
 pub fn give<B: Bank>(
     controller: &mut Controller<B>,
     claim: Claim,
-) -> Result<Result<u32, Refusal>, Claim>
+) -> Result<Result<u32, Refusal>, (Claim, Refusal)>
     ensures setup { setup_of B.Bank controller.new ≡ setup_of B.Bank controller.old }
     ensures does { Does (setup_of B.Bank controller.old) (snapshot_of B.Bank controller.old) (gave claim.task (gave_of result)) (snapshot_of B.Bank controller.new) }
     ensures follows { Follows (setup_of B.Bank controller.old) (snapshot_of B.Bank controller.old) (gave claim.task (gave_of result)) (snapshot_of B.Bank controller.new) }

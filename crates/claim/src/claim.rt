@@ -1,29 +1,27 @@
-ghost use Rattle.std.specs.Prelude.{◌≡◌, true, false};
+ghost use Rattle.std.specs.Prelude.{◌≡◌, ◌≤◌};
 
 /// A claim on what a task asked for. It can only be given back.
-// `Drop` asks for what no claim has, so that a forgotten claim is refused by the prover, and not only by the check of moves.
+// `Drop` asks for what no claim has, since the tasks of a plan are below 64: so a claim that is let go is refused by the prover.
 #[derive(Debug, PartialEq, Eq)]
 pub struct Claim {
     task: u32,
-    spent: bool,
 }
 
 impl Drop for Claim {
-    // Runs for no claim: by the contract of `ask` none is spent.
+    // Runs for no claim: by the contract of `ask` each is for a task that exists.
     fn drop(self)
-        requires { self.spent ≡ true }
+        requires { 64 ≤ self.task }
     {
-        let Claim { task: _, spent: _ } = self;
+        let Claim { task: _ } = self;
     }
 }
 
 impl Claim {
     // The claim of a task.
     pub(crate) fn of(task: u32) -> Claim
-        ensures task { result.task ≡ task }
-        ensures unspent { result.spent ≡ false }
+        ensures { result.task ≡ task }
     {
-        Claim { task, spent: false }
+        Claim { task }
     }
 
     // The task that the claim is for.
@@ -37,7 +35,7 @@ impl Claim {
     pub(crate) fn spend(self) -> u32
         ensures { result ≡ self.task }
     {
-        let Claim { task, spent: _ } = self;
+        let Claim { task } = self;
         task
     }
 }

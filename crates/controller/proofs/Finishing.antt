@@ -20,12 +20,12 @@ use Rattle.table.proofs.Firsts.{present}
 use Rattle.controller.specs.Issues.{IsNext}
 
 -- the task found exists and is held back
-pub next_known : (a : Setup) (tasks : ℕ → Task) (t : ℕ) (o : Option ℕ) → o ≡ next_of a tasks t → IsNext a.tasks tasks o
-next_known a tasks t None e = tt
-next_known a tasks t (Some u) e = go (least_below test value a.tasks) refl (sym e)
+pub next_known : (a : Setup) (tasks : ℕ → Task) (g : ℕ) (o : Option ℕ) → o ≡ next_of a tasks g → IsNext a.tasks tasks o
+next_known a tasks g None e = tt
+next_known a tasks g (Some u) e = go (least_below test value a.tasks) refl (sym e)
   where
     test : ℕ → Bool
-    test v = is_held_back (tasks v).state && eqb (cluster_of a v) (cluster_of a t)
+    test v = is_held_back (tasks v).state && eqb (cluster_of a v) g
 
     value : ℕ → ℕ
     value v = (tasks v).release
@@ -46,8 +46,8 @@ state_issued true w = refl
 state_issued false w = refl
 
 -- the records of which the job of t is ended
-pub next_same : (a : Setup) (s : Snapshot) (t : ℕ) (tasks : ℕ → Task) (o : Option ℕ) → o ≡ next_of a tasks t → ((q : ℕ) → tasks q ≡ cond (eqb t q) idle_task (s.tasks q)) → o ≡ next_issued a s t
-next_same a s t tasks o e h = e ∙ ap (λ (f : ℕ → Task). next_of a f t) (fun_ext h)
+pub next_same : (a : Setup) (s : Snapshot) (t : ℕ) (tasks : ℕ → Task) (o : Option ℕ) → o ≡ next_of a tasks (cluster_of a t) → ((q : ℕ) → tasks q ≡ cond (eqb t q) idle_task (s.tasks q)) → o ≡ next_issued a s t
+next_same a s t tasks o e h = e ∙ ap (λ (f : ℕ → Task). next_of a f (cluster_of a t)) (fun_ext h)
 
 -- a task that is held back there is another than t
 pub next_other : (k x : Task) (b : Bool) → k ≡ cond b idle_task x → is_held_back k.state ≡ true → k ≡ x

@@ -14,7 +14,7 @@ pub enum Call {
     Finish,
 }
 
-// Whether the state of a task admits the call: one match on the state and the call, the form fixed for the controller.
+// Whether the state of a task admits the call: one match on both, so that no state is left out at any call.
 pub(crate) fn admits(state: State, call: Call, running: bool) -> Result<(), Refusal>
     requires { running ≡ true → is_ready state ≡ true }
     ensures { Checked (admit_questions call running state) result }

@@ -75,13 +75,19 @@ fn settle(claim: Claim) -> Result<u32, Refusal> {
     }
 }
 
+// Why a claim was handed back, and what the other task was answered when it gave then.
+#[derive(Debug, PartialEq, Eq, Drop)]
+struct HandedBack {
+    why: Refusal,
+    other: Result<u32, Refusal>,
+}
+
 // What was answered to a task that asked with a claim and gave it back.
 #[derive(Debug, PartialEq, Eq, Drop)]
 struct Claimed {
     asked: Asked,
     ticked: Result<u32, Refusal>,
-    // what the other task was answered when it gave, since the claim was handed back
-    other: Option<Result<u32, Refusal>>,
+    back: Option<HandedBack>,
     gave: Result<u32, Refusal>,
 }
 
@@ -89,17 +95,18 @@ struct Claimed {
 fn by_claim<B: Bank>(c: &mut Controller<B>, resource: u32) -> Result<Claimed, Refusal> {
     let (asked, claim) = ask(c, 1, resource, Mode::Write)?;
     let ticked = c.tick();
-    let (other, gave) = match give(c, claim) {
+    let (back, gave) = match give(c, claim) {
         Ok(gave) => (None, gave),
-        Err(claim) => {
+        Err((claim, why)) => {
             let other = c.give(0);
-            (Some(other), give(c, claim).unwrap_or_else(settle))
+            let gave = give(c, claim).unwrap_or_else(|(claim, _)| settle(claim));
+            (Some(HandedBack { why, other }), gave)
         }
     };
     Ok(Claimed {
         asked,
         ticked,
-        other,
+        back,
         gave,
     })
 }
@@ -109,9 +116,9 @@ fn show_claimed(rt: &HostRuntime, answer: Result<Claimed, Refusal>) -> io::Resul
         Ok(done) => {
             println!(rt; "claim 1 {}", Shown(done.asked))?;
             show(rt, "tick", done.ticked)?;
-            if let Some(other) = done.other {
-                println!(rt; "handed back")?;
-                show(rt, "give 0", other)?;
+            if let Some(back) = done.back {
+                println!(rt; "handed back no {}", back.why.number())?;
+                show(rt, "give 0", back.other)?;
             }
             show(rt, "give 1", done.gave)
         }

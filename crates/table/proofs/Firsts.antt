@@ -111,5 +111,5 @@ module _ (p : Contents) (n : ℕ) (rows : List Task) (row : List (AbsentLast Hol
           ap (λ (h : Holder). Some (h.task, h.left)) (sym found.1) ∙ sym (ap (task_and_left (left_of p n rows)) found.0)
 
 -- what is issued next is the earliest of the cluster, if it is among the first
-pub next_by_parts : (p : Contents) (told : Told) (n k : ℕ) (rows : List Task) (t : ℕ) → next_of (setup_with p told n k) (tasks_in n rows) t ≡ if_first (setup_with p told n k) (jobs_of n rows) (earliest_of p n rows (get_or p.tasks t 0))
-next_by_parts p told n k rows t = refl
+pub next_by_parts : (p : Contents) (told : Told) (n k : ℕ) (rows : List Task) (g : ℕ) → next_of (setup_with p told n k) (tasks_in n rows) g ≡ if_first (setup_with p told n k) (jobs_of n rows) (earliest_of p n rows g)
+next_by_parts p told n k rows g = refl

@@ -1,20 +1,25 @@
 -- Rows by their places. Assumes nothing.
-use Rattle.std.proofs.Common.{◌≡◌, ℕ, zero, suc, ◌<◌, ◌≤◌, cond, eqb, ltb, List, [], ◌∷◌, length, get_or, set, replicate, unwrap_or, sym, refl, ap, ◌∙◌, subst, ⊎_elim, arith, get_or-set_other, get_or-set_same}
+use Rattle.std.proofs.Common.{◌≡◌, ℕ, zero, suc, ◌<◌, ◌≤◌, true, cond, eqb, ltb, List, [], ◌∷◌, length, get_or, set, replicate, Some, sym, refl, ap, ◌∙◌, subst, ⊎_elim, arith, get_or-set_other, get_or-set_same}
 use lib.ListN.{get_or-replicate, length-replicate}
-use Rattle.std.proofs.lemmas.Bool.{cases_lt, cases_eq, cond-true, cond-false, eq-eqb, ne_eqb, lt-ltb, le-ltb}
+use Rattle.std.proofs.ByRecursion.{All-get_or}
+use Rattle.std.proofs.lemmas.Bool.{ltb-true, cases_lt, cases_eq, cond-true, cond-false, eq-eqb, ne_eqb, lt-ltb, le-ltb}
 use Rattle.plan.specs.Contents.{entry_at}
+use Rattle.plan.specs.Of.{plan_contents}
+use Rattle.plan.specs.declared.plan.Plan.{Plan}
+use Rattle.plan.proofs.Lawful.{lawful}
 
 pub past_end : {X : Type 0} (xs : List X) (i : ℕ) (d : X) → length xs ≤ i → get_or xs i d ≡ d
 past_end [] i d h = refl
 past_end (x ∷ xs) zero d h = absurd (omega arith)
 past_end (x ∷ xs) (suc i) d h = past_end xs i d (omega arith)
 
-pub entry_or_zero : (xs : List ℕ) (i : ℕ) → unwrap_or (entry_at xs i) 0 ≡ get_or xs i 0
-entry_or_zero xs i =
-    ⊎_elim
-    (λ (l : i < length xs). ap (λ o. unwrap_or o 0) (cond-true (ltb i (length xs)) _ _ (lt-ltb i (length xs) l)))
-    (λ (g : length xs ≤ i). ap (λ o. unwrap_or o 0) (cond-false (ltb i (length xs)) _ _ (le-ltb i (length xs) g)) ∙ sym (past_end xs i 0 g))
-    (cases_lt i (length xs))
+-- an entry that is there
+pub entry_there : (xs : List ℕ) (i : ℕ) → i < length xs → entry_at xs i ≡ Some (get_or xs i 0)
+entry_there xs i l = cond-true (ltb i (length xs)) _ _ (lt-ltb i (length xs) l)
+
+-- the cluster of a task exists
+pub cluster_there : (p : Plan) (t : ℕ) → t < length (plan_contents p).tasks → get_or (plan_contents p).tasks t 0 < length (plan_contents p).clusters
+cluster_there p t l = ltb-true _ _ (All-get_or (λ g. ltb g (length (plan_contents p).clusters) ≡ true) (plan_contents p).tasks t 0 l (lawful p.tables).tasks)
 
 -- a row of one value has it everywhere
 pub same_all : {X : Type 0} (n : ℕ) (x : X) (q : ℕ) → get_or (replicate n x) q x ≡ x

@@ -1,5 +1,5 @@
 -- The jobs of a table as rows, each at the place of its task.
-use Rattle.std.specs.Prelude.{ℕ, ◌-◌, Bool, cond, not, ◌&&◌, List, Some, None, Option, ◌==◌, nat_lt, slice_index, slice_index_or}
+use Rattle.std.specs.Prelude.{ℕ, ◌-◌, Bool, true, cond, not, ◌&&◌, List, is_some, Some, None, Option, ◌==◌, nat_lt, slice_index, slice_index_or}
 use Rattle.std.specs.Option.{unwrap_or}
 use Rattle.bank.specs.Questions.{Told}
 use Rattle.order.specs.declared.elements.Holder.{Holder}
@@ -8,6 +8,7 @@ use Rattle.plan.specs.Contents.{Contents, length_at}
 use Rattle.rules.specs.Jobs.{Jobs, Setup, cluster_of, count_below, least_below, if_first}
 use Rattle.rules.specs.States.{is_idle, is_ready, is_held_back, is_holding, wanted_of, idle_task}
 use Rattle.rules.specs.declared.task.State.{State}
+use Rattle.rules.specs.declared.task.State.TheVariants.{Idle, Going, HeldBack as Held, Waiting, Holding}
 use Rattle.rules.specs.declared.task.Task.{Task}
 use Rattle.table.specs.declared.selection.Selection.{Selection}
 use Rattle.table.specs.declared.selection.Selection.TheVariants.{Unfinished, Ready, HeldBack}
@@ -43,9 +44,20 @@ setup_with p told n k = record { plan = p; told = told; tasks = n; resources = k
 abbrev pub earliest_of : Contents → ℕ → List Task → ℕ → Option ℕ
 earliest_of p n rows g = least_below (λ u. is_held_back (tasks_in n rows u).state && slice_index p.tasks u == g) (λ u. (tasks_in n rows u).release) n
 
--- the same of the cluster of t, if it is among the first; the records as a function
+-- the same, if it is among the first; the records as a function
 abbrev pub next_of : Setup → (ℕ → Task) → ℕ → Option ℕ
-next_of a tasks t = if_first a (record { state = λ q. (tasks q).state; number = λ q. (tasks q).release }) (least_below (λ u. is_held_back (tasks u).state && cluster_of a u == cluster_of a t) (λ u. (tasks u).release) a.tasks)
+next_of a tasks g =
+    if_first a (record { state = λ q. (tasks q).state; number = λ q. (tasks q).release })
+    (least_below (λ u. is_held_back (tasks u).state && cluster_of a u == g)
+    (λ u. (tasks u).release) a.tasks)
+
+-- what a task in this state has asked for has a declared length
+abbrev pub has_length : Contents → ℕ → State → Bool
+has_length p t Idle = true
+has_length p t Going = true
+has_length p t (Held w) = is_some (length_at p t w.resource)
+has_length p t (Waiting w) = is_some (length_at p t w.resource)
+has_length p t (Holding w) = is_some (length_at p t w.resource)
 
 -- a holder by the ticks that it has left
 abbrev pub left_of : Contents → ℕ → List Task → ℕ → ℕ

@@ -18,10 +18,7 @@ impl Table<'_> {
         let State::Holding(wanted) = record.state else {
             return None;
         };
-        let length = self
-            .plan
-            .length(task, wanted.resource as usize)
-            .unwrap_or(0) as u32;
+        let length = self.plan.length(task, wanted.resource as usize).unwrap() as u32;
         Some(Holder {
             left: length.saturating_sub(record.used),
             task: task as u32,

@@ -13,6 +13,7 @@ use rules::task::Task;
 impl Table<'_> {
     // The job of a task, if it is selected and of the cluster.
     fn job_at(&self, which: Selection, cluster: u8, task: usize) -> Option<Job>
+        requires { task < self.now.tasks }
         ensures { result ≡ job_at (plan_contents self.now.plan.now) self.now.tasks self.now.rows.now which cluster task }
     {
         let Task { state, release, .. } = self.task(task);
@@ -24,9 +25,8 @@ impl Table<'_> {
         ensures { (q : ℕ) → q < 64 → (slice_index_or result q (record { 0 = None })).0 ≡ job_at (plan_contents self.now.plan.now) self.now.tasks self.now.rows.now which cluster q }
     {
         let mut row = [AbsentLast(None); 64];
-        // by index, and written only where a job is: `iter_mut` was tried, and takes more instructions also where each place
-        // has a task
-        for task in 0..self.tasks.min(64) {
+        // by the number of a task, which is its place; written only where a job is, since all places are empty at first
+        for task in 0..self.tasks {
             let Some(job) = self.job_at(which, cluster, task) else {
                 continue;
             };
@@ -47,10 +47,9 @@ impl Table<'_> {
         ensures { result ≡ ranks_among (plan_contents self.now.plan.now) self.now.tasks self.now.rows.now which task }
     {
         let Task { state, release, .. } = self.task(task);
-        let cluster = self.cluster_of(task);
         which.has(state)
-            && self.jobs_before(which, cluster, Job { release })
-                < self.processors_of(cluster) as usize
+            && self.jobs_before(which, self.cluster_of(task), Job { release })
+                < self.processors_for(task) as usize
     }
 
     /// Whether the job of a task runs.

@@ -4,7 +4,7 @@ ghost use Rattle.table.specs.contracts.records.Records.{the_row};
 
 use rules::task::Task;
 
-/// The records of 64 tasks, in fixed memory: the form fixed for the controller, of which one element is lent.
+/// The records of 64 tasks, in fixed memory. One of them is lent at a time, so that a call changes that one and no other.
 #[derive(Debug, PartialEq, Eq, Drop)]
 pub struct Records<T> {
     pub rows: [T; 64],

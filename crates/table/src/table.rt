@@ -1,6 +1,6 @@
-ghost use Rattle.std.specs.Prelude.{◌≡◌, length, slice_index};
+ghost use Rattle.std.specs.Prelude.{◌≡◌, ℕ, ◌<◌, ◌≤◌, true, length, slice_index};
 ghost use Rattle.plan.specs.Of.{plan_contents};
-ghost use Rattle.table.specs.Rows.{tasks_in};
+ghost use Rattle.table.specs.Rows.{has_length, tasks_in};
 
 use plan::plan::Plan;
 use rules::task::Task;
@@ -12,31 +12,37 @@ pub struct Table<'a> {
     pub tasks: usize,
     pub rows: &'a [Task; 64],
     ghost all_records: { length rows.now ≡ 64 },
+    ghost known_tasks: { tasks ≤ length (plan_contents plan.now).tasks },
+    ghost known_lengths: { (q : ℕ) →
+        has_length (plan_contents plan.now) q (tasks_in tasks rows.now q).state ≡ true },
 }
 
 impl Table<'_> {
-    // The cluster of a task, or 0 where there is no such task.
-    #[tactic(auto, using(crate::proofs::Rows::entry_or_zero))]
+    // The cluster of a task.
+    #[tactic(auto, using(crate::proofs::Rows::entry_there))]
     pub(crate) fn cluster_of(&self, task: usize) -> u8
+        requires { task < self.now.tasks }
         ensures { result ≡ slice_index (plan_contents self.now.plan.now).tasks task }
     {
-        self.plan.cluster_of(task).unwrap_or(0)
+        self.plan.cluster_of(task).unwrap()
     }
 
-    // The processors of a cluster, or 0 where there is no such cluster.
-    #[tactic(auto, using(crate::proofs::Rows::entry_or_zero))]
-    pub(crate) fn processors_of(&self, cluster: u8) -> u8
-        ensures { result ≡ slice_index (plan_contents self.now.plan.now).clusters cluster }
+    // The processors of the cluster of a task.
+    #[tactic(auto, using(crate::proofs::Rows::entry_there, crate::proofs::Rows::cluster_there))]
+    pub(crate) fn processors_for(&self, task: usize) -> u8
+        requires { task < self.now.tasks }
+        ensures { result ≡ slice_index (plan_contents self.now.plan.now).clusters
+            (slice_index (plan_contents self.now.plan.now).tasks task) }
     {
-        self.plan.processors(cluster as usize).unwrap_or(0)
+        let cluster = self.cluster_of(task);
+        self.plan.processors(cluster as usize).unwrap()
     }
 
     // The record of a task.
-    #[tactic(auto, using(crate::proofs::Rows::past_end))]
     pub(crate) fn task(&self, task: usize) -> Task
         ensures { result ≡ tasks_in self.now.tasks self.now.rows.now task }
     {
-        if task < self.tasks.min(64) {
+        if task < self.tasks {
             self.rows[task]
         } else {
             Task::IDLE

@@ -1,4 +1,4 @@
-ghost use Rattle.std.specs.Prelude.{◌≡◌, ℕ, ◌≤◌};
+ghost use Rattle.std.specs.Prelude.{◌≡◌, ℕ, ◌<◌, slice_index};
 ghost use Rattle.bank.specs.Questions.{Told};
 ghost use Rattle.controller.specs.Issues.{IsNext};
 ghost use Rattle.controller.specs.Banks.{BankChanges};
@@ -20,12 +20,17 @@ use table::records::Records;
 use table::table::Table;
 
 // The task whose request is issued, where the job of a task has ended.
+#[tactic(auto, using(table::proofs::Rows::entry_there))]
 fn next_task(jobs: &Table, task: usize) -> Option<u32>
-    requires { jobs.now.tasks ≤ 64 }
-    ensures next { (told : Told) (k : ℕ) → result ≡ next_of (setup_with (plan_contents jobs.now.plan.now) told jobs.now.tasks k) (tasks_in jobs.now.tasks jobs.now.rows.now) task }
+    requires { task < jobs.now.tasks }
+    ensures next { (told : Told) (k : ℕ) → result ≡ next_of
+        (setup_with (plan_contents jobs.now.plan.now) told jobs.now.tasks k)
+        (tasks_in jobs.now.tasks jobs.now.rows.now)
+        (slice_index (plan_contents jobs.now.plan.now).tasks task) }
     ensures known { IsNext jobs.now.tasks (tasks_in jobs.now.tasks jobs.now.rows.now) result }
 {
-    let next = jobs.next_issued(task)?;
+    let cluster = jobs.plan.cluster_of(task).unwrap();
+    let next = jobs.next_issued(cluster)?;
     Some(next as u32)
 }
 

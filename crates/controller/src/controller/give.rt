@@ -35,7 +35,7 @@ fn let_in_all<B: Bank>(bank: &B, resource: u32, tasks: usize, rows: &mut [Task; 
     requires { (resource < (B.Bank.told bank.now).resources) × (tasks ≤ 64) }
     ensures { LetsIn tasks resource (B.Bank.active bank.now resource) rows.old rows.new }
 {
-    // the form fixed for the controller: a loop with an index over its table
+    // by the number of a task, which is its place in the table
     for t in 0..tasks {
         rows[t] = let_in(bank, resource, t as u32, rows[t]);
     }

@@ -16,14 +16,14 @@ use rules::refusal::Refusal;
 use rules::task::Task;
 use table::records::Records;
 
-// Whether a resource of the bank has the plan's k and modes, and nobody active.
+// Whether a resource of the plan and the bank has the plan's k and modes, and nobody active.
 fn fits_at<B: Bank>(plan: &Plan, bank: &B, resource: u32) -> bool
-    requires { resource < (B.Bank.told bank.now).resources }
+    requires { (resource < (B.Bank.told bank.now).resources) × (resource < resource_count (plan_contents plan.now)) }
     ensures { result ≡ fits_at (plan_contents plan.now) (B.Bank.told bank.now) (B.Bank.active bank.now) resource }
 {
-    let (k, reads) = match plan.resource(resource as usize) {
-        Some(Resource::Slots(k)) => (k as u32, false),
-        Some(Resource::ReaderWriter) | None => (1, true),
+    let (k, reads) = match plan.resource(resource as usize).unwrap() {
+        Resource::Slots(k) => (k as u32, false),
+        Resource::ReaderWriter => (1, true),
     };
     bank.slots(resource).is_ok_and(|slots| slots == k)
         && bank.reads(resource).is_ok_and(|known| known == reads)
@@ -32,7 +32,7 @@ fn fits_at<B: Bank>(plan: &Plan, bank: &B, resource: u32) -> bool
 
 // Whether each of the first so many resources fits.
 fn each_fits<B: Bank>(plan: &Plan, bank: &B, resources: u32) -> bool
-    requires { resources ≤ (B.Bank.told bank.now).resources }
+    requires { (resources ≤ (B.Bank.told bank.now).resources) × (resources ≤ resource_count (plan_contents plan.now)) }
     ensures { IsTrue result ↔ ((r : ℕ) → r < resources → IsTrue (fits_at (plan_contents plan.now) (B.Bank.told bank.now) (B.Bank.active bank.now) r)) }
 {
     (0..resources).all(|r| fits_at(plan, bank, r))

@@ -28,7 +28,7 @@ impl<B: Bank> Controller<B> {
         ensures { TellsLimit (setup_of B.Bank self.now) resource mode result }
     {
         let turns = self.turns(resource, mode)?;
-        let longest = self.plan.longest(resource as usize).unwrap_or(0);
+        let longest = self.plan.longest(resource as usize).unwrap();
         Ok(ticks_of_turns(turns, longest))
     }
 

@@ -22,7 +22,7 @@ impl<B: Bank> Controller<B> {
         let record = self.table.rows[t];
         match record.state {
             State::Holding(wanted) => {
-                let length = self.plan.length(t, wanted.resource as usize).unwrap_or(0);
+                let length = self.plan.length(t, wanted.resource as usize).unwrap();
                 if record.used >= length as u32 {
                     return None;
                 }
@@ -35,7 +35,7 @@ impl<B: Bank> Controller<B> {
                 blocked: record.blocked + 1,
                 ..record
             }),
-            // `tick_all` leaves these out, for its speed
+            // not asked for by `tick_all`, which leaves out the records that stay
             State::Idle | State::Going | State::HeldBack(_) => Some(record),
         }
     }
@@ -45,9 +45,9 @@ impl<B: Bank> Controller<B> {
         ensures { TicksAll (setup_of B.Bank self.now) (snapshot_of B.Bank self.now) result }
     {
         let mut rows = self.table.rows;
-        // the form fixed for the controller: a loop with an index over its table
+        // by the number of a task, which is its place in the table
         for t in 0..self.tasks {
-            // a record that stays is not written: to write each was tried, and takes a quarter more instructions
+            // a record that stays is not written: most tasks neither wait nor hold
             if !matches!(
                 self.table.rows[t].state,
                 State::Waiting(_) | State::Holding(_)

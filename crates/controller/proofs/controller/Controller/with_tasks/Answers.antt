@@ -1,7 +1,9 @@
-use Rattle.std.proofs.Common.{ℕ, ◌≤◌, get_or, replicate, sym, refl, subst, arith}
+use Rattle.std.proofs.Common.{ℕ, ◌≤◌, get_or, replicate, sym, refl, ap, subst, arith}
 use Rattle.plan.proofs.Lawful.{lawful}
 use Rattle.rules.specs.States.{idle_task}
 use Rattle.rules.specs.declared.task.Task.{Task}
+use Rattle.plan.specs.Of.{plan_contents}
+use Rattle.table.specs.Rows.{has_length}
 use Rattle.table.proofs.Rows.{same_all}
 use Rattle.controller.proofs.Beginning.{idle_all}
 use Rattle.controller.proofs.controller.Controller.with_tasks.Goals as goal
@@ -13,12 +15,14 @@ pub invariant_of-result : goal.invariant_of-result
 invariant_of-result g c =
     let few = (lawful c.args.plan.now.tables).few_tasks in
     let pre = c.requires in record {
+      known_tasks = pre.0;
       few_tasks = omega (arith, pre.0);
       few_resources = pre.1;
       clock_ends = omega arith;
       releases_end = omega arith;
       all_records = refl;
       blocked_ticks = never_blocked;
+      known_lengths = λ q. ap (λ (k : Task). has_length (plan_contents c.args.plan.now) q k.state) (idle_all c.args.tasks q);
     }
 
 pub returns-clause-idle : goal.returns-clause-idle
