@@ -11,8 +11,11 @@ pub enum Item {
     Task(u32),
     /// `L,t,r,n`: task t declares length n at resource r.
     Length {
+        /// t, the number of the task, from 0.
         task: u32,
+        /// r, the number of the resource, from 0.
         resource: u32,
+        /// n, in ticks.
         ticks: u32,
     },
 }

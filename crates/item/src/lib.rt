@@ -2,7 +2,11 @@
 #![tactic(auto)]
 
 mod ending;
+/// The fields of a line behind its letter.
 pub mod field;
+/// What one line says.
 pub mod item;
+/// From a line to its item.
 pub mod read;
+/// From an item to its line.
 pub mod write;

@@ -1,6 +1,5 @@
-ghost use Rattle.std.specs.Prelude.{◌≡◌, Some, None, Ok, Err, IfErr};
-ghost use Rattle.text.specs.declared.refusal.Refusal.TheVariants.{Form};
-ghost use Rattle.item.specs.Lines.{read_three, read_form, read_item, IsLineOf};
+ghost use Rattle.std.specs.Prelude.{◌≡◌};
+ghost use Rattle.item.specs.Lines.{read_three, read_form, read_item, ReadsItem};
 
 use crate::field::{is_newline, read_field, read_last};
 use crate::item::Item;
@@ -35,24 +34,30 @@ fn form(letter: u8, rest: &[u8]) -> Option<Item>
     }
 }
 
+// The item that a line is, if it has one of the five forms.
+fn read_item(line: &[u8]) -> Option<Item>
+    ensures { result ≡ read_item line.now }
+{
+    let (letter, rest) = line.split_first()?;
+    form(*letter, rest)
+}
+
 impl TryFrom<&[u8]> for Item {
     type Error = Refusal;
 
-    ghost try_from_gives = { λ line r. read_item line.now ≡ elim r [ Ok i ↦ Some i | Err why ↦ None ] × IfErr r (λ why. why ≡ Form) };
+    ghost try_from_gives = { λ line r. ReadsItem line.now r };
 
     fn try_from(line: &[u8]) -> Result<Item, Refusal> {
-        let (letter, rest) = line.split_first().ok_or(Refusal::Form)?;
-        form(*letter, rest).ok_or(Refusal::Form)
+        Item::read(line)
     }
 }
 
 impl Item {
-    /// The item that a line is, if it has one of the five forms.
+    /// The item that a line is, its newline included. A line of none of the five forms is refused.
     #[tactic(auto, using(crate::proofs::Lines::is_line_of))]
-    pub fn read(line: &[u8]) -> Option<Item>
-        ensures value { result ≡ read_item line.now }
-        ensures image { IsLineOf line.now result }
+    pub fn read(line: &[u8]) -> Result<Item, Refusal>
+        ensures { ReadsItem line.now result }
     {
-        Item::try_from(line).ok()
+        read_item(line).ok_or(Refusal::Form)
     }
 }

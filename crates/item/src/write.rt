@@ -61,7 +61,7 @@ fn prepend(line: &mut Ending, item: Item)
     }
 }
 
-// Apart from the public call, so that an edit there is refused by the contract and not at a proof.
+// The line of an item, built from its newline to its letter.
 fn line(item: Item) -> ByteVec<40>
     ensures text { result ≡ item_text item }
     ensures few { length (item_text item) ≤ 35 }
@@ -73,7 +73,7 @@ fn line(item: Item) -> ByteVec<40>
     line
 }
 
-// Apart from the public call, so that an edit there is refused by the contract and not at a proof.
+// Puts the line of an item into memory. The public call says besides that such a line reads back.
 fn write_line(item: Item, out: &mut [u8], at: usize) -> Result<usize, Refusal>
     ensures { Writes out.old at (item_text item) result out.new }
 {
@@ -81,7 +81,7 @@ fn write_line(item: Item, out: &mut [u8], at: usize) -> Result<usize, Refusal>
 }
 
 impl Item {
-    /// The line of an item, with its newline.
+    /// The line of an item, with its newline. At most 35 bytes: numbers here may have up to ten digits.
     pub fn line(self) -> ByteVec<40>
         ensures text { result ≡ item_text self }
         ensures few { length result ≤ 35 }
@@ -89,14 +89,15 @@ impl Item {
         line(self)
     }
 
-    /// How many bytes an item is written in.
+    /// How many bytes the line of an item has, with its newline.
     pub fn size(self) -> usize
         ensures { result ≡ length (item_text self) }
     {
         self.line().len()
     }
 
-    /// Writes an item's line at a place, and answers the place behind it.
+    /// Writes an item's line, with its newline, at a place, and answers the place behind it. Where it does not fit,
+    /// nothing is written and the refusal is 23.
     // Memory and place stay apart: a struct of both would promise in each contract and loop that it still lends the same memory.
     #[tactic(auto, using(crate::proofs::Lines::read_back))]
     pub fn write(self, out: &mut [u8], at: usize) -> Result<usize, Refusal>

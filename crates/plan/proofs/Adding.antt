@@ -1,9 +1,10 @@
 -- What the questions put to an item tell.
-use Rattle.std.proofs.Common.{◌≡◌, true, [], ◌∷◌, None}
+use Rattle.std.proofs.Common.{◌≡◌, ℕ, true, [], ◌∷◌, Some, None, Option}
+use Rattle.item.specs.Lines.{form_questions}
 use Rattle.item.specs.declared.item.Item.{Item}
 use Rattle.text.specs.Questions.{ask, first_no}
 use Rattle.text.proofs.Questions.{all_yes}
-use Rattle.plan.specs.Adding.{in_order, in_limits, has_room, item_questions}
+use Rattle.plan.specs.Adding.{in_order, in_limits, has_room, item_questions, line_questions}
 use Rattle.plan.specs.Contents.{Contents}
 
 -- an item that is taken is in order, in its limits, and has room
@@ -12,3 +13,8 @@ passes c i e =
     let a = all_yes 17 (in_order c i) (ask 18 (in_limits c i) ∷ (ask 19 (has_room c i) ∷ [])) e in
     let b = all_yes 18 (in_limits c i) (ask 19 (has_room c i) ∷ []) a.1 in
     (a.0, b.0, (all_yes 19 (has_room c i) [] b.1).0)
+
+-- a line that is refused by its form is so by all questions put to it
+pub form_refused : (c : Contents) (item : Option Item) (q : ℕ) → first_no (form_questions item) ≡ Some q → first_no (line_questions c item) ≡ Some q
+form_refused c None q e = e
+form_refused c (Some i) q e = absurd (cc)

@@ -1,5 +1,6 @@
 pub mod Adding
 pub mod Grid
+pub mod KeepsLimits
 pub mod Lawful
 pub mod Rows
 pub mod Same

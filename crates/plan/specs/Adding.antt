@@ -1,7 +1,8 @@
 -- What a line adds to a plan, and the questions put to a line and to sealing.
-use Rattle.std.specs.Prelude.{◌≡◌, ℕ, ◌+◌, Bool, true, false, ◌&&◌, ◌||◌, List, [], ◌∷◌, ◌++◌, length, Some, None, Option, ◌==◌, nat_le, nat_lt}
+use Rattle.std.specs.Prelude.{◌≡◌, ℕ, ◌+◌, Bool, true, ◌&&◌, ◌||◌, List, [], ◌∷◌, ◌++◌, length, Some, None, Option, ◌==◌, nat_le, nat_lt}
 use Rattle.item.specs.declared.item.Item.{Item}
 use Rattle.item.specs.declared.item.Item.TheVariants.{Cluster, Slots, ReaderWriter, Task, Length}
+use Rattle.item.specs.Lines.{form_questions}
 use Rattle.text.specs.Questions.{Question, ask}
 use Rattle.plan.specs.Contents.{Declared, Contents, processors, resource_count}
 
@@ -54,8 +55,8 @@ abbrev pub item_questions : Contents → Item → List Question
 item_questions c i = ask 17 (in_order c i) ∷ (ask 18 (in_limits c i) ∷ (ask 19 (has_room c i) ∷ []))
 
 abbrev pub line_questions : Contents → Option Item → List Question
-line_questions c None = ask 16 false ∷ []
-line_questions c (Some i) = ask 16 true ∷ item_questions c i
+line_questions c None = form_questions None
+line_questions c (Some i) = form_questions (Some i) ++ item_questions c i
 
 -- there is a cluster, a resource and a task
 abbrev pub complete : Contents → Bool

@@ -1,7 +1,8 @@
 ghost use Rattle.std.specs.Prelude.{◌≡◌};
 ghost use Rattle.plan.specs.Adding.{empty};
 ghost use Rattle.plan.specs.Drafts.{lines_taken, AddsLine, Seals};
-ghost use Rattle.plan.specs.Of.{contents_of};
+ghost use Rattle.plan.specs.KeepsLimits.{KeepsLimits};
+ghost use Rattle.plan.specs.Of.{contents_of, plan_contents};
 
 use crate::plan::Plan;
 use crate::tables::Tables;
@@ -70,8 +71,10 @@ impl Draft {
     }
 
     /// Fills the place of a plan from the tables.
+    #[tactic(auto, using(crate::proofs::KeepsLimits::keeps_limits))]
     pub fn seal(self, tables: &Tables, into: &mut Plan) -> Result<(), (Draft, Refused)>
-        ensures { Seals self tables.now into.old result into.new }
+        ensures seals { Seals self tables.now into.old result into.new }
+        ensures limits { KeepsLimits (plan_contents into.new) }
     {
         if tables.clusters.len() == 0 || tables.resources() == 0 || tables.tasks.len() == 0 {
             let refusal = Refusal::Incomplete;

@@ -1,39 +1,46 @@
 -- Lines laid one after another.
-use Rattle.std.proofs.Common.{◌≤◌, ◌≡◌, ℕ, ◌+◌, ◌*◌, ◌/◌, ◌%◌, ◌<◌, true, false, cond, eqb, List, [], ◌∷◌, ◌++◌, map, length, get_or, take, replicate, Some, None, sym, refl, ap, ◌∙◌, append-nil, zero-add, arith}
-use Rattle.std.proofs.lemmas.List.{take_more, take_all, map-append, replicate_more}
+use Rattle.std.proofs.Common.{◌≤◌, ◌≡◌, ℕ, zero, suc, ◌+◌, ◌-◌, ◌*◌, ◌/◌, ◌%◌, ◌<◌, true, false, cond, eqb, List, [], ◌∷◌, ◌++◌, map, length, get_or, take, replicate, Some, None, sym, refl, ap, ◌∙◌, append_assoc, append-nil, zero-add, arith, length-append}
+use Rattle.std.proofs.lemmas.List.{take_more, map-append, length-map, length-replicate, get_or-map, get_or_append_left, get_or-append_right}
 use Rattle.item.specs.Lines.{item_text}
 use Rattle.item.specs.declared.item.Item.{Item}
-use Rattle.item.specs.declared.item.Item.TheVariants.{Cluster, Slots, ReaderWriter, Task, Length}
-use Rattle.plan.specs.Contents.{Contents, length_in, length_item}
+use Rattle.item.specs.declared.item.Item.TheVariants.{Slots, ReaderWriter, Length}
+use Rattle.plan.specs.Contents.{Contents, resource_count, length_in, length_item}
 use Rattle.plan.specs.Of.{placed, declared}
 use Rattle.plan.proofs.Grid.{held, held_at, length_held, declared_more}
 use Rattle.text.specs.Memory.{Lays}
 use Rattle.text.proofs.Lays.{lays_more}
 use Rattle.plan_text.specs.Texts.{row_text, plan_text}
-use Rattle.plan_text.specs.Writing.{length_items, place_text}
+use Rattle.plan_text.specs.Writing.{cluster_items, resource_items, task_items, length_items, place_text}
 use Rattle.plan_text.proofs.Image.{joined_append}
 
--- one line more, of the item that the next number makes
-pub made_next : (make : ℕ → Item) (xs : List ℕ) (i : ℕ) (item : Item) → i < length xs → item ≡ make (get_or xs i 0) → (old : List ℕ) (at middle : ℕ) (mid : List ℕ) → Lays old at (row_text (map make (take i xs))) middle mid → (end : ℕ) (new : List ℕ) → Lays mid middle (item_text item) end new → Lays old at (row_text (map make (take (i + 1) xs))) end new
-made_next make xs i item l e old at middle mid f end new g = rw (made_more) (lays_more old at (row_text (map make (take i xs))) middle mid (item_text item) end new f g)
-  where
-    made_more : row_text (map make (take (i + 1) xs)) ≡ row_text (map make (take i xs)) ++ item_text item
-    made_more =
-        ap (λ ys. row_text (map make ys)) (take_more xs i 0 l)
-        ∙ (ap row_text (map-append make (take i xs) (get_or xs i 0 ∷ []))
-        ∙ (joined_append item_text (map make (take i xs)) (make (get_or xs i 0) ∷ [])
-        ∙ (ap (λ ys. row_text (map make (take i xs)) ++ ys) (append-nil (item_text (make (get_or xs i 0)))) ∙ ap (λ j. row_text (map make (take i xs)) ++ item_text j) (sym e))))
+-- the text of a row, one item on
+row_more : (is : List Item) (i : ℕ) (item : Item) → i < length is → item ≡ get_or is i ReaderWriter → row_text (take (i + 1) is) ≡ row_text (take i is) ++ item_text item
+row_more is i item l e =
+    ap row_text (take_more is i ReaderWriter l)
+    ∙ (joined_append item_text (take i is) (get_or is i ReaderWriter ∷ [])
+    ∙ (ap (λ ys. row_text (take i is) ++ ys) (append-nil (item_text (get_or is i ReaderWriter))) ∙ ap (λ j. row_text (take i is) ++ item_text j) (sym e)))
 
--- a row of which every line is laid
-pub lays_all : (is : List Item) (i : ℕ) (old : List ℕ) (at end : ℕ) (new : List ℕ) → length is ≤ i → Lays old at (row_text (take i is)) end new → Lays old at (row_text is) end new
-lays_all is i old at end new l f = rw (take_all i is l) at f
+pub lays_next : (is : List Item) (i : ℕ) (item : Item) → i < length is → item ≡ get_or is i ReaderWriter → (old : List ℕ) (at middle : ℕ) (mid : List ℕ) → Lays old at (row_text (take i is)) middle mid → (end : ℕ) (new : List ℕ) → Lays mid middle (item_text item) end new → Lays old at (row_text (take (i + 1) is)) end new
+lays_next is i item l e old at middle mid f end new g = rw (row_more is i item l e) (lays_more old at (row_text (take i is)) middle mid (item_text item) end new f g)
 
--- the same of reader-writer resources
-pub writers_next : (n : ℕ) (old : List ℕ) (at middle : ℕ) (mid : List ℕ) → Lays old at (row_text (replicate n ReaderWriter)) middle mid → (end : ℕ) (new : List ℕ) → Lays mid middle (item_text ReaderWriter) end new → Lays old at (row_text (replicate (n + 1) ReaderWriter)) end new
-writers_next n old at middle mid f end new g = rw more (lays_more old at (row_text (replicate n ReaderWriter)) middle mid (item_text ReaderWriter) end new f g)
-  where
-    more : row_text (replicate (n + 1) ReaderWriter) ≡ row_text (replicate n ReaderWriter) ++ item_text ReaderWriter
-    more = ap row_text (sym (replicate_more n ReaderWriter)) ∙ (joined_append item_text (replicate n ReaderWriter) (ReaderWriter ∷ []) ∙ ap (λ ys. row_text (replicate n ReaderWriter) ++ ys) (append-nil (item_text ReaderWriter)))
+-- the item of an entry of a table
+pub entry_item : (make : ℕ → Item) (xs : List ℕ) (i : ℕ) → i < length xs → make (get_or xs i 0) ≡ get_or (map make xs) i ReaderWriter
+entry_item make xs i l = sym (get_or-map make xs i 0 ReaderWriter l)
+
+-- the item of a resource
+pub slots_at : (c : Contents) (r : ℕ) → r < length c.slots → Slots (get_or c.slots r 0) ≡ get_or (resource_items c) r ReaderWriter
+slots_at c r l = sym (get_or_append_left (map Slots c.slots) _ ReaderWriter r (omega (arith, length-map c.slots Slots)) ∙ get_or-map Slots c.slots r 0 ReaderWriter l)
+
+writer_row : (n i : ℕ) → get_or (replicate n ReaderWriter) i ReaderWriter ≡ ReaderWriter
+writer_row zero i = refl
+writer_row (suc n) zero = refl
+writer_row (suc n) (suc i) = writer_row n i
+
+pub writers_at : (c : Contents) (r : ℕ) → length c.slots ≤ r → ReaderWriter ≡ get_or (resource_items c) r ReaderWriter
+writers_at c r le = sym (get_or-append_right (map Slots c.slots) _ (length c.slots) r ReaderWriter (length-map c.slots Slots) le ∙ writer_row c.reader_writers (r - length c.slots))
+
+pub length_resources : (c : Contents) → length (resource_items c) ≡ resource_count c
+length_resources c = omega (arith, length-append (map Slots c.slots) (replicate c.reader_writers ReaderWriter), length-map c.slots Slots, length-replicate c.reader_writers ReaderWriter)
 
 -- the text of the lengths in the first places of the table
 abbrev pub places_text : List ℕ → ℕ → List ℕ
@@ -64,12 +71,10 @@ module _ (xs : List ℕ) (k : ℕ) (l : k < length xs) (old : List ℕ) (at midd
   lays_place end new g = rw (place_more xs k l) (lays_more old at (places_text xs k) middle mid placed_text end new f g)
 
 -- the text of a plan, table by table
-pub plan_parts : (c : Contents) → plan_text c ≡ row_text (map Cluster c.clusters) ++ (row_text (map Slots c.slots) ++ (row_text (replicate c.reader_writers ReaderWriter) ++ (row_text (map Task c.tasks) ++ row_text (length_items c))))
+pub plan_parts : (c : Contents) → plan_text c ≡ row_text (cluster_items c) ++ (row_text (resource_items c) ++ (row_text (task_items c) ++ row_text (length_items c)))
 plan_parts c =
-    joined_append item_text (map Cluster c.clusters) _
-    ∙ ap (λ ys. row_text (map Cluster c.clusters) ++ ys)
-    (joined_append item_text (map Slots c.slots) _
-    ∙ ap (λ ys. row_text (map Slots c.slots) ++ ys)
-    (joined_append item_text (replicate c.reader_writers ReaderWriter) _
-    ∙ ap (λ ys. row_text (replicate c.reader_writers ReaderWriter) ++ ys)
-    (joined_append item_text (map Task c.tasks) (length_items c))))
+    let t : List Item = task_items c ++ length_items c in
+    joined_append item_text (cluster_items c) _
+    ∙ ap (λ ys. row_text (cluster_items c) ++ ys)
+    (ap row_text (sym (append_assoc (map Slots c.slots) (replicate c.reader_writers ReaderWriter) t))
+    ∙ (joined_append item_text (resource_items c) t ∙ ap (λ ys. row_text (resource_items c) ++ ys) (joined_append item_text (task_items c) (length_items c))))

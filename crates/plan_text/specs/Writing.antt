@@ -1,13 +1,18 @@
 -- The items of a plan, table by table, as the writer lays them.
-use Rattle.std.specs.Prelude.{◌≡◌, ℕ, ◌/◌, ◌%◌, ◌<◌, List, [], map, Some, None, Option}
+use Rattle.std.specs.Prelude.{ℕ, ◌/◌, ◌%◌, List, [], ◌++◌, map, replicate, Some, None, Option}
 use Rattle.item.specs.Lines.{item_text}
 use Rattle.item.specs.declared.item.Item.{Item}
-use Rattle.item.specs.declared.item.Item.TheVariants.{Length}
+use Rattle.item.specs.declared.item.Item.TheVariants.{Cluster, Slots, ReaderWriter, Task, Length}
 use Rattle.plan.specs.Contents.{Contents, length_at, length_item}
 
--- what is answered to each number is this item
-abbrev pub Makes : (ℕ → Item → Type 0) → (ℕ → Item) → Type 0
-Makes answered item = (n : ℕ) (i : Item) → n < 256 → answered n i → i ≡ item n
+abbrev pub cluster_items : Contents → List Item
+cluster_items c = map Cluster c.clusters
+
+abbrev pub resource_items : Contents → List Item
+resource_items c = map Slots c.slots ++ replicate c.reader_writers ReaderWriter
+
+abbrev pub task_items : Contents → List Item
+task_items c = map Task c.tasks
 
 abbrev pub length_items : Contents → List Item
 length_items c = map length_item c.lengths

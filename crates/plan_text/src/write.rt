@@ -1,11 +1,10 @@
-ghost use Rattle.std.specs.Prelude.{◌≡◌, ℕ, ◌+◌, ◌*◌, ◌^◌, ◌<◌, ◌≤◌, length, map, replicate};
+ghost use Rattle.std.specs.Prelude.{◌≡◌, ◌+◌, ◌*◌, ◌^◌, ◌<◌, ◌≤◌, slice_index_or};
 ghost use Rattle.item.specs.Lines.{item_text};
-ghost use Rattle.item.specs.declared.item.Item.{Item as Line};
 ghost use Rattle.item.specs.declared.item.Item.TheVariants.{ReaderWriter as ReaderWriterItem};
 ghost use Rattle.plan.specs.Of.{plan_contents};
 ghost use Rattle.text.specs.Memory.{Writes, Lays};
 ghost use Rattle.plan_text.specs.Texts.{row_text, plan_text, ReadsBack};
-ghost use Rattle.plan_text.specs.Writing.{Makes, length_items, length_text};
+ghost use Rattle.plan_text.specs.Writing.{cluster_items, resource_items, task_items, length_items, length_text};
 
 use item::item::Item;
 use plan::plan::Plan;
@@ -26,30 +25,59 @@ fn lay_item(out: &mut [u8], at: usize, item: Item) -> usize
     }
 }
 
-// Lays the lines of the items that the numbers of a row make.
-fn lay_row<F: Fn(u32) -> Item>(out: &mut [u8], at: usize, row: &[u8], make: F) -> usize
-    requires callable { F.IsAlwaysCallable make }
-    requires room { at + 35 * length row.now < 2 ^ 64 }
-    ensures few { result ≤ at + 35 * length row.now }
-    ensures lays { (item : ℕ → Line) → Makes (F.post make) item → Lays out.old at (row_text (map item row.now)) result out.new }
+// The line of each cluster.
+#[tactic(auto, using(text::proofs::Lays::lays_none))]
+fn lay_clusters(plan: &Plan, out: &mut [u8], at: usize) -> usize
+    requires { at ≤ 2 ^ 40 }
+    ensures few { result ≤ at + 35 * 8 }
+    ensures lays { Lays out.old at (row_text (cluster_items (plan_contents plan.now))) result out.new }
 {
     let mut end = at;
-    for n in row {
-        end = lay_item(out, end, make(*n as u32));
+    for cluster in 0..plan.clusters() {
+        let processors = plan.cluster_processors()[cluster];
+        end = lay_item(out, end, Item::Cluster(processors as u32));
     }
     end
 }
 
-// Lays the lines of so many reader-writer resources.
-#[tactic(auto, using(text::proofs::Lays::lays_none))]
-fn lay_reader_writers(out: &mut [u8], at: usize, count: usize) -> usize
-    requires { at + 35 * count < 2 ^ 64 }
-    ensures few { result ≤ at + 35 * count }
-    ensures lays { Lays out.old at (row_text (replicate count ReaderWriterItem)) result out.new }
+// The item of a resource: the slot resources come first, and reader-writer resources follow.
+#[tactic(auto, using(crate::proofs::Writing::slots_at, crate::proofs::Writing::writers_at))]
+fn resource_item(plan: &Plan, resource: usize) -> Item
+    ensures { result ≡ slice_index_or (resource_items (plan_contents plan.now)) resource ReaderWriterItem }
+{
+    let slots = plan.slot_holders();
+    if resource < slots.len() {
+        Item::Slots(slots[resource] as u32)
+    } else {
+        Item::ReaderWriter
+    }
+}
+
+// The line of each resource.
+#[tactic(auto, using(crate::proofs::Writing::length_resources, text::proofs::Lays::lays_none))]
+fn lay_resources(plan: &Plan, out: &mut [u8], at: usize) -> usize
+    requires { at ≤ 2 ^ 40 }
+    ensures few { result ≤ at + 35 * 16 }
+    ensures lays { Lays out.old at (row_text (resource_items (plan_contents plan.now))) result out.new }
 {
     let mut end = at;
-    for _ in 0..count {
-        end = lay_item(out, end, Item::ReaderWriter);
+    for resource in 0..plan.resources() {
+        end = lay_item(out, end, resource_item(plan, resource));
+    }
+    end
+}
+
+// The line of each task.
+#[tactic(auto, using(text::proofs::Lays::lays_none))]
+fn lay_tasks(plan: &Plan, out: &mut [u8], at: usize) -> usize
+    requires { at ≤ 2 ^ 40 }
+    ensures few { result ≤ at + 35 * 64 }
+    ensures lays { Lays out.old at (row_text (task_items (plan_contents plan.now))) result out.new }
+{
+    let mut end = at;
+    for task in 0..plan.tasks() {
+        let cluster = plan.task_clusters()[task];
+        end = lay_item(out, end, Item::Task(cluster as u32));
     }
     end
 }
@@ -93,18 +121,16 @@ fn lay_lengths(plan: &Plan, out: &mut [u8], at: usize) -> usize
 fn lay_plan(plan: &Plan, out: &mut [u8]) -> usize
     ensures { Lays out.old 0 (plan_text (plan_contents plan.now)) result out.new }
 {
-    let slots = lay_row(out, 0, plan.cluster_processors(), |c| Item::Cluster(c));
-    let writers = lay_row(out, slots, plan.slot_holders(), |k| Item::Slots(k));
-    let tasks = lay_reader_writers(out, writers, plan.reader_writers());
-    let lengths = lay_row(out, tasks, plan.task_clusters(), |g| Item::Task(g));
+    let resources = lay_clusters(plan, out, 0);
+    let tasks = lay_resources(plan, out, resources);
+    let lengths = lay_tasks(plan, out, tasks);
     lay_lengths(plan, out, lengths)
 }
 
 // No plan's text is longer: 1,112 lines of at most 14 bytes.
 const MOST: usize = 15568;
 
-// Writes the whole text where it fits; memory in which each plan's text fits asks for no measuring. Apart from the public call,
-// so that an edit there is refused by the contract.
+// Writes the whole text where it fits. Memory in which each plan's text fits asks for no measuring.
 #[tactic(auto, using(crate::proofs::Sizes::plan_size))]
 fn write_text(plan: &Plan, out: &mut [u8]) -> Result<usize, Refusal>
     ensures { Writes out.old 0 (plan_text (plan_contents plan.now)) result out.new }
@@ -115,7 +141,8 @@ fn write_text(plan: &Plan, out: &mut [u8]) -> Result<usize, Refusal>
     Ok(lay_plan(plan, out))
 }
 
-/// Writes the text of a plan at the start of memory, and answers its size.
+/// Writes the text of a plan at the start of memory, and answers its size in bytes. Where it does not fit, nothing is
+/// written and the refusal is 23. 15,568 bytes are enough for each plan.
 #[tactic(auto, using(crate::proofs::Image::text_accepted))]
 pub fn write(plan: &Plan, out: &mut [u8]) -> Result<usize, Refusal>
     ensures writes { Writes out.old 0 (plan_text (plan_contents plan.now)) result out.new }

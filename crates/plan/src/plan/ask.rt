@@ -1,5 +1,6 @@
 ghost use Rattle.std.specs.Prelude.{◌≡◌, ◌<◌, ◌≤◌, length};
 ghost use Rattle.plan.specs.Contents.{smallest, processors, resource_count, entry_at, resource_at, length_at, longest_at, longest_of};
+ghost use Rattle.plan.specs.KeepsLimits.{KeepsLimits};
 ghost use Rattle.plan.specs.Of.{contents_of, plan_contents};
 
 use crate::plan::Plan;
@@ -52,8 +53,10 @@ fn smallest_tables() -> Tables
 
 impl Plan {
     /// The smallest plan: `C,1` `S,1` `T,0`.
+    #[tactic(auto, using(crate::proofs::KeepsLimits::keeps_limits))]
     pub fn new() -> Plan
-        ensures { plan_contents result ≡ smallest }
+        ensures value { plan_contents result ≡ smallest }
+        ensures limits { KeepsLimits (plan_contents result) }
     {
         Plan {
             tables: smallest_tables(),
@@ -61,8 +64,10 @@ impl Plan {
     }
 
     /// How many clusters there are.
+    #[tactic(auto, using(crate::proofs::KeepsLimits::keeps_limits))]
     pub fn clusters(&self) -> usize
-        ensures { result ≡ length (plan_contents self.now).clusters }
+        ensures value { result ≡ length (plan_contents self.now).clusters }
+        ensures limits { KeepsLimits (plan_contents self.now) }
     {
         self.tables.clusters.len()
     }

@@ -216,6 +216,7 @@ impl Tables {
     }
 
     // Takes a line, or tells the first question answered no.
+    #[tactic(auto, using(crate::proofs::Adding::form_refused))]
     pub(crate) fn take_line(&mut self, line: &[u8]) -> Result<(), Refusal>
         ensures { TakesLine line.now self.old result self.new }
     {
