@@ -1,5 +1,5 @@
 -- A slot resource worked by calls, from its parties alone.
-use Rattle.std.proofs.Common.{◌≡◌, ℕ, Bool, true, false, List, [], ◌∷◌, ◌++◌, length, None, Ok, Err, Option, Result, nat_lt, sym, refl, ap, ◌∙◌, arith}
+use Rattle.std.proofs.Common.{◌≡◌, ℕ, Bool, true, false, List, [], ◌∷◌, ◌++◌, length, None, Ok, Err, Option, Result, nat_lt, sym, refl, ap, ◌∙◌, arith, slice_index}
 use Rattle.std.specs.Prelude.{⊤}
 use Rattle.std.specs.List.{remove}
 use Rattle.std.proofs.lemmas.Option.{none-some}
@@ -7,12 +7,13 @@ use Rattle.text.specs.Questions.{first_no}
 use Rattle.bank.specs.Questions.{number, Told, enter_questions, leave_questions}
 use Rattle.bank.specs.declared.refusal.Refusal.{Refusal}
 use Rattle.bank.specs.declared.request.Mode.{Mode}
+use Rattle.plan.specs.Contents.{Contents, processors}
 use Rattle.plan_text.specs.Texts.{read_text}
 use Rattle.slots.specs.Lines.{requests, turn_limit}
 use Rattle.slots.specs.Of.{holders_of, parties_of, told_of, active_of, MadeFrom}
 use Rattle.slots.specs.Rows.{place}
 use Rattle.slots.specs.declared.slots.Slots.{Slots}
-use Rattle.examples.specs.Examples.{slots_bank, slots_plan, SlotsWork}
+use Rattle.examples.specs.Banks.{slots_bank, SlotsWork}
 use Rattle.examples.specs.Steps.{Step, enters_holding, enters_waiting, leaves, EnterGives, LeaveGives, Works}
 
 -- one resource for k with m seats, and who is active there
@@ -103,20 +104,21 @@ works m k ps s (leaves p xs ∷ steps) st g = (
 )
 
 -- a bank just made from a plan with one slot resource
-made : (m k : ℕ) (s : Slots) → MadeFrom (slots_plan m k) s → Stands m k [] s
-made m k s d =
+made : (c : Contents) (m k : ℕ) (s : Slots) → processors c ≡ m → c.slots ≡ k ∷ [] → MadeFrom c s → Stands m k [] s
+made c m k s seats slots d =
+    let one : length c.slots ≡ 1 = ap length slots in
     record {
-      resources = d.resources;
-      seats = omega (arith, d.seats);
-      slots = d.slots 0 (omega arith);
+      resources = d.resources ∙ one;
+      seats = d.seats ∙ seats;
+      slots = d.slots 0 (omega (arith, one)) ∙ ap (λ (xs : List ℕ). slice_index xs 0) slots;
       parties = d.nobody 0;
     }
 
-pub slots_work : (text : List ℕ) (m k limit : ℕ) (steps : List Step) → read_text text ≡ Ok (slots_plan m k) → turn_limit m k ≡ limit → Goes m k [] steps → SlotsWork text m k limit steps
-slots_work text m k limit steps accepted e g = (
+pub slots_work : (text : List ℕ) (c : Contents) (m k turns : ℕ) (steps : List Step) → read_text text ≡ Ok c → processors c ≡ m → c.slots ≡ k ∷ [] → turn_limit m k ≡ turns → Goes m k [] steps → SlotsWork text c m k turns steps
+slots_work text c m k turns steps accepted seats slots e g = (
   accepted,
   λ s d.
-      let st = made m k s d in (
+      let st = made c m k s seats slots d in (
         record {
           seats = st.seats;
           slots = st.slots;

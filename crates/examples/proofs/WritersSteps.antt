@@ -1,5 +1,5 @@
 -- A reader-writer resource worked by calls, from its entries alone.
-use Rattle.std.proofs.Common.{◌≡◌, ℕ, Bool, true, false, List, [], ◌∷◌, None, Ok, Err, Option, Result, sym, refl, ap, ◌∙◌, arith}
+use Rattle.std.proofs.Common.{◌≡◌, ℕ, Bool, true, false, List, [], ◌∷◌, None, Ok, Err, Option, Result, sym, refl, ap, ◌∙◌}
 use Rattle.std.specs.Prelude.{⊤}
 use Rattle.std.proofs.lemmas.Option.{none-some}
 use Rattle.text.specs.Questions.{first_no}
@@ -7,6 +7,7 @@ use Rattle.bank.specs.Questions.{number, Told, enter_questions, leave_questions}
 use Rattle.bank.specs.declared.refusal.Refusal.{Refusal}
 use Rattle.bank.specs.declared.request.Mode.{Mode}
 use Rattle.bank.specs.declared.request.Mode.TheVariants.{Write, Read}
+use Rattle.plan.specs.Contents.{Contents, processors}
 use Rattle.plan_text.specs.Texts.{read_text}
 use Rattle.readers_writers.specs.Banks.{told_of, active_of}
 use Rattle.readers_writers.specs.Lines.{admits, entered as entered_list, left as left_list, requests, turn_limit}
@@ -14,7 +15,7 @@ use Rattle.readers_writers.specs.Of.{entries_of}
 use Rattle.readers_writers.specs.Told.{told}
 use Rattle.readers_writers.specs.declared.entry.Entry.{Entry}
 use Rattle.readers_writers.specs.declared.lines.ReadersWriters.{ReadersWriters}
-use Rattle.examples.specs.Examples.{writers_bank, writers_plan, WritersWork}
+use Rattle.examples.specs.Banks.{writers_bank, WritersWork}
 use Rattle.examples.specs.Steps.{Step, enters_holding, enters_waiting, leaves, EnterGives, LeaveGives, Works}
 
 -- one resource with m seats, and its entries
@@ -96,17 +97,17 @@ works m es b (leaves p xs ∷ steps) st g = (
   λ a d e. let r = left m es b st d p a g.0 e in (r.0, active m (left_list es p) d r.1 ∙ g.1, works m (left_list es p) d steps r.1 g.2),
 )
 
-pub writers_work : (text : List ℕ) (m write_limit read_limit : ℕ) (steps : List Step) → read_text text ≡ Ok (writers_plan m) → turn_limit m Write ≡ write_limit → turn_limit m Read ≡ read_limit → Goes m [] steps → WritersWork text m write_limit read_limit steps
-writers_work text m write_limit read_limit steps accepted w r g = (
+pub writers_work : (text : List ℕ) (c : Contents) (m w r : ℕ) (steps : List Step) → read_text text ≡ Ok c → processors c ≡ m → c.reader_writers ≡ 1 → turn_limit m Write ≡ w → turn_limit m Read ≡ r → Goes m [] steps → WritersWork text c m w r steps
+writers_work text c m w r steps accepted e one write_turns read_turns g = (
   accepted,
   λ b made.
-      let seats : (told_of b).seats ≡ m = let z = ap (λ (x : Told). x.seats) made.0 in omega (arith, z) in
-      let st : Stands m [] b = record { resources = ap (λ (x : Told). x.resources) made.0; seats = seats; entries = made.1 0 } in (
+      let seats : (told_of b).seats ≡ m = ap (λ (x : Told). x.seats) made.0 ∙ e in
+      let st : Stands m [] b = record { resources = ap (λ (x : Told). x.resources) made.0 ∙ one; seats = seats; entries = made.1 0 } in (
         record {
           seats = seats;
           slots = refl;
-          write_limit = ap (λ n. turn_limit n Write) seats ∙ w;
-          read_limit = ap (λ n. turn_limit n Read) seats ∙ r;
+          write_limit = ap (λ n. turn_limit n Write) seats ∙ write_turns;
+          read_limit = ap (λ n. turn_limit n Read) seats ∙ read_turns;
         },
         works m [] b steps st g,
       ),

@@ -1,3 +1,4 @@
 pub mod Steps
-pub mod Examples
+pub mod Banks
 pub mod Run
+pub mod Examples

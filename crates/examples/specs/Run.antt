@@ -4,8 +4,8 @@ use Rattle.std.specs.Prelude.{Some, None, Ok, Err, Option}
 use Rattle.bank.specs.Questions.{Told}
 use Rattle.bank.specs.declared.request.Mode.TheVariants.{Write}
 use Rattle.bank.specs.declared.request.Request.{Request}
-use Rattle.plan.specs.Contents.{Contents}
-use Rattle.plan_text.specs.Texts.{read_text}
+use Rattle.bank.specs.Limits.{ticks_of_turns}
+use Rattle.plan.specs.Contents.{Contents, longest_at}
 use Rattle.rules.specs.Answers.{Event, made, released, asked, gave, finished, ticked}
 use Rattle.rules.specs.Histories.{Moment, History, job, wanted, issued, holding, waiting, state}
 use Rattle.rules.specs.Histories.{jobs_after, used, waited, job_waited, blocked_ticks_of, after}
@@ -19,7 +19,7 @@ use Rattle.rules.specs.declared.task.State.TheVariants.{Idle, Going, HeldBack, W
 use Rattle.rules.specs.declared.task.Wanted.{Wanted}
 use Rattle.slots.specs.Lines.{turn_limit}
 use Rattle.text.specs.Questions.{first_no}
-use Rattle.examples.specs.Examples.{holder, waiter}
+use Rattle.examples.specs.Steps.{Step, enters_holding, enters_waiting, leaves, holder, waiter}
 
 abbrev pub text : List ℕ
 text = codes "C,2\nS,1\nT,0\nT,0\nT,0\nL,0,0,2\nL,1,0,1\nL,2,0,1\n"
@@ -226,11 +226,22 @@ CallsHold =
     × (next_issued setup (after setup (history 11)) 0 ≡ Some 2)
     × (first_no (ask_questions setup (after setup (history 13)) 1 0 Write) ≡ Some 8)
 
--- the text is accepted as the plan, the controller is made, and the run goes as told
+-- the requests of the run, as they are issued and given back
+abbrev pub valve_steps : List Step
+valve_steps =
+    enters_holding 0 Write (alone 0)
+    ∷ enters_waiting 1 Write (before 0 1)
+    ∷ leaves 0 (alone 1)
+    ∷ enters_waiting 2 Write (before 1 2)
+    ∷ leaves 1 (alone 2)
+    ∷ leaves 2 none
+    ∷ []
+
+-- the controller is made, the run goes as told, and the wait limit is two ticks
 abbrev pub RunHolds : Type 0
 RunHolds =
-    (read_text text ≡ Ok plan)
-    × AnsweredAfter setup made [] (λ _. none)
+    AnsweredAfter setup made [] (λ _. none)
     × Said start run
     × JobsHold
     × CallsHold
+    × (ticks_of_turns (told.limit 0 Write) (longest_at plan 0) ≡ 2)

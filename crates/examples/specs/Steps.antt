@@ -7,6 +7,13 @@ use Rattle.bank.specs.declared.meaning.Bank.{Ghosts}
 use Rattle.bank.specs.declared.refusal.Refusal.{Refusal}
 use Rattle.bank.specs.declared.request.Mode.{Mode}
 use Rattle.bank.specs.declared.request.Request.{Request}
+use Rattle.bank.specs.declared.request.Standing.TheVariants.{Holds as Holding, Waits}
+
+abbrev pub holder : ℕ → Mode → Request
+holder p m = record { party = p; mode = m; standing = Holding }
+
+abbrev pub waiter : ℕ → Mode → ℕ → ℕ → Request
+waiter p m turns departures = record { party = p; mode = m; standing = Waits turns departures }
 
 -- a call that is accepted, with its answer, and the active requests after it
 pub data Step : Type 0 where

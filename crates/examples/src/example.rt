@@ -22,4 +22,6 @@ pub enum Example {
     ReadLeft,
     /// A reader-writer resource with three seats: three writes enter.
     ThreeWrites,
+    /// Slots for one holder with two seats: the requests of the worked run, issued and given back.
+    WorkedRun,
 }

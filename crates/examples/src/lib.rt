@@ -11,7 +11,7 @@ use example::Example;
 /// All worked examples, none left out. Each of them holds, and one run goes call by call as
 /// specs/Run.antt tells it.
 #[tactic(auto, using(crate::proofs::Examples::all_hold, crate::proofs::Examples::each_is_in))]
-pub fn hold() -> [Example; 10]
+pub fn hold() -> [Example; 11]
     ensures all { AllHold result }
     ensures each { EachIsIn result }
     ensures run { RunHolds }
@@ -27,5 +27,6 @@ pub fn hold() -> [Example; 10]
         Example::ReadsAndWrite,
         Example::ReadLeft,
         Example::ThreeWrites,
+        Example::WorkedRun,
     ]
 }
