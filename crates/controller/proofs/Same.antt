@@ -1,5 +1,5 @@
 -- Controllers with equal fields are the same value.
-use Rattle.std.proofs.Common.{◌≡◌, ℕ, ◌≤◌, true, min, List, length, get_or, ap}
+use Rattle.std.proofs.Common.{◌≡◌, ℕ, ◌≤◌, min, List, length, get_or, ap}
 use mathlib.Core.HLevel.{is_prop→PathP}
 use denote.Struct.Props.{props}
 use Rattle.bank.specs.Questions.{Told}
@@ -9,7 +9,7 @@ use Rattle.plan.specs.Of.{plan_contents}
 use Rattle.rules.specs.Jobs.{Setup}
 use Rattle.rules.specs.States.{idle_task}
 use Rattle.rules.specs.declared.task.Task.{Task}
-use Rattle.table.specs.Rows.{has_length, tasks_in}
+use Rattle.table.specs.Rows.{KeepsLengths, tasks_in}
 use Rattle.controller.specs.declared.controller.Controller.{Controller}
 
 -- each fact that the type keeps has one proof
@@ -19,7 +19,7 @@ le_prop m n = hlevel props
 long_prop : (rows : List Task) → IsProp (length rows ≡ 64)
 long_prop rows = hlevel props
 
-lengths_prop : (p : Contents) (n : ℕ) (rows : List Task) → IsProp ((q : ℕ) → has_length p q (tasks_in n rows q).state ≡ true)
+lengths_prop : (p : Contents) (n : ℕ) (rows : List Task) → IsProp (KeepsLengths p (tasks_in n rows))
 lengths_prop p n rows = hlevel props
 
 few_prop : (rows : List Task) (n : ℕ) → IsProp ((q : ℕ) → (get_or rows q idle_task).blocked ≤ n)
@@ -42,7 +42,7 @@ same_controllers c d p t r k w n b =
       releases_end = is_prop→PathP (λ j. n j ≤ 100000000) (λ j. le_prop (n j) 100000000) c.releases_end d.releases_end i;
       all_records = is_prop→PathP (λ j. length (k j).rows ≡ 64) (λ j. long_prop (k j).rows) c.all_records d.all_records i;
       blocked_ticks = is_prop→PathP (λ j. (q : ℕ) → (get_or (k j).rows q idle_task).blocked ≤ w j) (λ j. few_prop (k j).rows (w j)) c.blocked_ticks d.blocked_ticks i;
-      known_lengths = is_prop→PathP (λ j. (q : ℕ) → has_length (plan_contents (p j)) q (tasks_in (t j) (k j).rows q).state ≡ true) (λ j. lengths_prop (plan_contents (p j)) (t j) (k j).rows) c.known_lengths d.known_lengths i;
+      keeps_lengths = is_prop→PathP (λ j. KeepsLengths (plan_contents (p j)) (tasks_in (t j) (k j).rows)) (λ j. lengths_prop (plan_contents (p j)) (t j) (k j).rows) c.keeps_lengths d.keeps_lengths i;
     }
 
 -- a bank that tells the same

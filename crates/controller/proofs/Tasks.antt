@@ -1,16 +1,18 @@
 -- The records of the first n tasks, by their places.
-use Rattle.std.proofs.Common.{◌≡◌, ℕ, zero, suc, ◌<◌, ◌≤◌, Bool, true, false, cond, eqb, ltb, ◌&&◌, List, [], ◌∷◌, length, get_or, set, is_some, sym, refl, ap, ◌∙◌, subst, ⊎_elim, arith}
-use Rattle.std.proofs.lemmas.Bool.{false≢true, cases_lt, cond-true, cond-false, lt-ltb, le-ltb, ne_eqb, eqb-true}
+use Rattle.std.proofs.Common.{◌≡◌, ℕ, zero, suc, ◌+◌, ◌<◌, ◌≤◌, Bool, true, false, cond, eqb, leb, ltb, List, [], ◌∷◌, length, get_or, set, is_some, Some, None, Option, unwrap_or, sym, refl, ap, ◌∙◌, subst, ⊎_elim, arith}
+use Rattle.std.proofs.lemmas.Bool.{false≢true, le-leb, leb-false, cases_lt, cond-true, cond-false, lt-ltb, le-ltb, ne_eqb, eqb-true}
 use Rattle.plan.specs.Contents.{Contents, length_at}
-use Rattle.rules.specs.Moves.{let_in_state, ticked_state}
-use Rattle.rules.specs.States.{is_held_back, wanted_of, asked_state, idle_task, in_state}
+use Rattle.rules.specs.Jobs.{Setup, Snapshot}
+use Rattle.rules.specs.Moves.{ticked_state, ticked_task}
+use Rattle.rules.specs.Questions.{late_in, late}
+use Rattle.rules.specs.States.{is_held_back, wanted_of, asked_state, idle_task}
 use Rattle.rules.specs.declared.answer.Asked.{Asked}
 use Rattle.rules.specs.declared.answer.Asked.TheVariants.{Hold, Wait, Back}
 use Rattle.rules.specs.declared.task.State.{State}
 use Rattle.rules.specs.declared.task.State.TheVariants.{Idle, Going, HeldBack, Waiting, Holding}
 use Rattle.rules.specs.declared.task.Task.{Task}
 use Rattle.rules.specs.declared.task.Wanted.{Wanted}
-use Rattle.table.specs.Rows.{has_length, tasks_in}
+use Rattle.table.specs.Rows.{is_within, keeps_length, KeepsLengths, tasks_in}
 use Rattle.table.proofs.Rows.{set_row}
 
 pub task_here : (n : ℕ) (rows : List Task) (q : ℕ) → q < n → tasks_in n rows q ≡ get_or rows q idle_task
@@ -45,51 +47,49 @@ tasks_moved n rows new t f lt few all e q = tasks_written n rows new t (f (get_o
     place true h = ap f (sym (task_here n rows t lt) ∙ ap (tasks_in n rows) (eqb-true t q h))
     place false h = refl
 
--- What each task has asked for has a declared length, and has one after each change.
-abbrev pub LengthsKnown : Contents → (ℕ → Task) → Type 0
-LengthsKnown p tasks = (q : ℕ) → has_length p q (tasks q).state ≡ true
+-- What each task has asked for keeps its declared length after each change.
 
 -- one record is another
-pub lengths_one : (p : Contents) (old new : ℕ → Task) (t : ℕ) (k : Task) → LengthsKnown p old → has_length p t k.state ≡ true → ((q : ℕ) → new q ≡ cond (eqb t q) k (old q)) → LengthsKnown p new
-lengths_one p old new t k known here written q = ap (λ (x : Task). has_length p q x.state) (written q) ∙ place (eqb t q) refl
+pub lengths_one : (p : Contents) (old new : ℕ → Task) (t : ℕ) (k : Task) → KeepsLengths p old → keeps_length p t k.used k.state ≡ true → ((q : ℕ) → new q ≡ cond (eqb t q) k (old q)) → KeepsLengths p new
+lengths_one p old new t k known here written q = ap (λ (x : Task). keeps_length p q x.used x.state) (written q) ∙ place (eqb t q) refl
   where
-    place : (b : Bool) → eqb t q ≡ b → has_length p q (cond b k (old q)).state ≡ true
-    place true e = subst (λ u. has_length p u k.state ≡ true) (eqb-true t q e) here
+    place : (b : Bool) → eqb t q ≡ b → keeps_length p q (cond b k (old q)).used (cond b k (old q)).state ≡ true
+    place true e = subst (λ u. keeps_length p u k.used k.state ≡ true) (eqb-true t q e) here
     place false e = known q
 
--- each record asks for what it asked for
-pub lengths_each : (p : Contents) (old new : ℕ → Task) → LengthsKnown p old → ((q : ℕ) → has_length p q (new q).state ≡ has_length p q (old q).state) → LengthsKnown p new
-lengths_each p old new known same q = same q ∙ known q
+-- a request that has not held yet, at a declared length
+within_none : (o : Option ℕ) → is_some o ≡ true → is_within 0 o ≡ true
+within_none None e = absurd (false≢true e)
+within_none (Some l) e = le-leb 0 l (omega arith)
 
--- a task that is let in
-pub length_let_in : (p : Contents) (r q : ℕ) (held : Bool) (st : State) (k : Task) → k.state ≡ st → has_length p q (let_in_state r held st k).state ≡ has_length p q k.state
-length_let_in p r q held Idle k e = refl
-length_let_in p r q held Going k e = refl
-length_let_in p r q held (HeldBack w) k e = refl
-length_let_in p r q held (Waiting w) k e = go (eqb w.resource r && held)
-  where
-    go : (b : Bool) → has_length p q (cond b (in_state (Holding w) k) k).state ≡ has_length p q k.state
-    go true = sym (ap (has_length p q) e)
-    go false = refl
-length_let_in p r q held (Holding w) k e = refl
+pub lengths_asked : (p : Contents) (q : ℕ) (x : Asked) (w : Wanted) → is_some (length_at p q w.resource) ≡ true → keeps_length p q 0 (asked_state x w) ≡ true
+lengths_asked p q Hold w e = within_none (length_at p q w.resource) e
+lengths_asked p q Wait w e = within_none (length_at p q w.resource) e
+lengths_asked p q Back w e = within_none (length_at p q w.resource) e
 
--- one tick on
-pub length_ticked : (p : Contents) (q : ℕ) (st : State) (k : Task) → has_length p q (ticked_state st k).state ≡ has_length p q k.state
-length_ticked p q Idle k = refl
-length_ticked p q Going k = refl
-length_ticked p q (HeldBack w) k = refl
-length_ticked p q (Waiting w) k = refl
-length_ticked p q (Holding w) k = refl
+-- what is held back is at a declared length
+declared : (n : ℕ) (o : Option ℕ) → is_within n o ≡ true → is_some o ≡ true
+declared n None e = absurd (false≢true e)
+declared n (Some l) e = refl
 
--- what is asked for is what was
-pub length_wanted : (p : Contents) (q : ℕ) (st : State) → is_held_back st ≡ true → has_length p q st ≡ is_some (length_at p q (wanted_of st).resource)
-length_wanted p q Idle e = absurd (false≢true e)
-length_wanted p q Going e = absurd (false≢true e)
-length_wanted p q (HeldBack w) e = refl
-length_wanted p q (Waiting w) e = absurd (false≢true e)
-length_wanted p q (Holding w) e = absurd (false≢true e)
+pub length_wanted : (p : Contents) (q used : ℕ) (st : State) → is_held_back st ≡ true → keeps_length p q used st ≡ true → is_some (length_at p q (wanted_of st).resource) ≡ true
+length_wanted p q used Idle e k = absurd (false≢true e)
+length_wanted p q used Going e k = absurd (false≢true e)
+length_wanted p q used (HeldBack w) e k = declared used (length_at p q w.resource) k
+length_wanted p q used (Waiting w) e k = absurd (false≢true e)
+length_wanted p q used (Holding w) e k = absurd (false≢true e)
 
-pub length_asked : (p : Contents) (q : ℕ) (x : Asked) (w : Wanted) → has_length p q (asked_state x w) ≡ is_some (length_at p q w.resource)
-length_asked p q Hold w = refl
-length_asked p q Wait w = refl
-length_asked p q Back w = refl
+-- one tick on, where the task is not late
+ticked_within : (n : ℕ) (o : Option ℕ) → leb (unwrap_or o 0) n ≡ false → is_within n o ≡ true → is_within (n + 1) o ≡ true
+ticked_within n None e k = absurd (false≢true k)
+ticked_within n (Some l) e k = le-leb (n + 1) l (omega (arith, leb-false l n e))
+
+lengths_ticked : (a : Setup) (t : ℕ) (st : State) (k : Task) → k.state ≡ st → late_in a t k.used st ≡ false → keeps_length a.plan t k.used st ≡ true → keeps_length a.plan t (ticked_state st k).used (ticked_state st k).state ≡ true
+lengths_ticked a t Idle k e late kept = rw e refl
+lengths_ticked a t Going k e late kept = rw e refl
+lengths_ticked a t (HeldBack w) k e late kept = ap (keeps_length a.plan t k.used) e ∙ kept
+lengths_ticked a t (Waiting w) k e late kept = ap (keeps_length a.plan t k.used) e ∙ kept
+lengths_ticked a t (Holding w) k e late kept = ap (keeps_length a.plan t (k.used + 1)) e ∙ ticked_within k.used (length_at a.plan t w.resource) late kept
+
+pub lengths_all_ticked : (a : Setup) (s : Snapshot) (new : ℕ → Task) → KeepsLengths a.plan s.tasks → ((q : ℕ) → late a s q ≡ false) → ((q : ℕ) → new q ≡ ticked_task (s.tasks q)) → KeepsLengths a.plan new
+lengths_all_ticked a s new known on_time each q = ap (λ (k : Task). keeps_length a.plan q k.used k.state) (each q) ∙ lengths_ticked a q (s.tasks q).state (s.tasks q) refl (on_time q) (known q)

@@ -5,7 +5,7 @@ use Rattle.rules.specs.Moves.{ticked_task}
 use Rattle.rules.specs.Questions.{late_in, late_task}
 use Rattle.rules.specs.States.{idle_task}
 use Rattle.rules.specs.declared.task.Task.{Task}
-use Rattle.table.specs.Rows.{tasks_in}
+use Rattle.table.specs.Rows.{KeepsLengths, tasks_in}
 
 -- the record of task t one tick on, unless it is late
 abbrev pub TicksTask : Setup → ℕ → Task → ℕ → Option Task → Type 0
@@ -18,6 +18,7 @@ pub record Ticked (a : Setup) (s : Snapshot) (rows : List Task) : Type 0 where
   pub all : length rows ≡ 64
   pub tasks : (q : ℕ) → tasks_in a.tasks rows q ≡ ticked_task (s.tasks q)
   pub few : (q : ℕ) → (slice_index_or rows q idle_task).blocked ≤ s.clock + 1
+  pub lengths : KeepsLengths a.plan (tasks_in a.tasks rows)
 
 abbrev pub TicksAll : Setup → Snapshot → Result (List Task) ℕ → Type 0
 TicksAll a s (Ok rows) = Ticked a s rows

@@ -1,8 +1,8 @@
-ghost use Rattle.std.specs.Prelude.{◌≡◌, ℕ, ◌≤◌, true, length, slice_index_or};
+ghost use Rattle.std.specs.Prelude.{◌≡◌, ℕ, ◌≤◌, length, slice_index_or};
 ghost use Rattle.plan.specs.Contents.{resource_count};
 ghost use Rattle.plan.specs.Of.{plan_contents};
 ghost use Rattle.rules.specs.States.{idle_task};
-ghost use Rattle.table.specs.Rows.{has_length, tasks_in};
+ghost use Rattle.table.specs.Rows.{KeepsLengths, tasks_in};
 
 use bank::meaning::Bank;
 use plan::plan::Plan;
@@ -27,8 +27,7 @@ pub struct Controller<B: Bank> {
     ghost releases_end: { releases ≤ 100000000 },
     ghost all_records: { length table.rows ≡ 64 },
     ghost blocked_ticks: { (q : ℕ) → (slice_index_or table.rows q idle_task).blocked ≤ clock },
-    ghost known_lengths: { (q : ℕ) →
-        has_length (plan_contents plan) q (tasks_in tasks table.rows q).state ≡ true },
+    ghost keeps_lengths: { KeepsLengths (plan_contents plan) (tasks_in tasks table.rows) },
 }
 
 impl<B: Bank> Controller<B> {

@@ -1,5 +1,5 @@
 -- The jobs of a table as rows, each at the place of its task.
-use Rattle.std.specs.Prelude.{ℕ, ◌-◌, Bool, true, cond, not, ◌&&◌, List, is_some, Some, None, Option, ◌==◌, nat_lt, slice_index, slice_index_or}
+use Rattle.std.specs.Prelude.{◌≡◌, ℕ, ◌-◌, Bool, true, false, cond, not, ◌&&◌, List, Some, None, Option, ◌==◌, nat_le, nat_lt, slice_index, slice_index_or}
 use Rattle.std.specs.Option.{unwrap_or}
 use Rattle.bank.specs.Questions.{Told}
 use Rattle.order.specs.declared.elements.Holder.{Holder}
@@ -51,13 +51,21 @@ next_of a tasks g =
     (least_below (λ u. is_held_back (tasks u).state && cluster_of a u == g)
     (λ u. (tasks u).release) a.tasks)
 
--- what a task in this state has asked for has a declared length
-abbrev pub has_length : Contents → ℕ → State → Bool
-has_length p t Idle = true
-has_length p t Going = true
-has_length p t (Held w) = is_some (length_at p t w.resource)
-has_length p t (Waiting w) = is_some (length_at p t w.resource)
-has_length p t (Holding w) = is_some (length_at p t w.resource)
+-- n ticks are within a length that is declared
+abbrev pub is_within : ℕ → Option ℕ → Bool
+is_within n None = false
+is_within n (Some l) = nat_le n l
+
+-- what a task has asked for has a declared length, and it has held for no more than that
+abbrev pub keeps_length : Contents → ℕ → ℕ → State → Bool
+keeps_length p t used Idle = true
+keeps_length p t used Going = true
+keeps_length p t used (Held w) = is_within used (length_at p t w.resource)
+keeps_length p t used (Waiting w) = is_within used (length_at p t w.resource)
+keeps_length p t used (Holding w) = is_within used (length_at p t w.resource)
+
+abbrev pub KeepsLengths : Contents → (ℕ → Task) → Type 0
+KeepsLengths p tasks = (q : ℕ) → keeps_length p q (tasks q).used (tasks q).state ≡ true
 
 -- a holder by the ticks that it has left
 abbrev pub left_of : Contents → ℕ → List Task → ℕ → ℕ

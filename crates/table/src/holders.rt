@@ -20,7 +20,7 @@ impl Table<'_> {
         };
         let length = self.plan.length(task, wanted.resource as usize).unwrap() as u32;
         Some(Holder {
-            left: length.saturating_sub(record.used),
+            left: length - record.used,
             task: task as u32,
         })
     }

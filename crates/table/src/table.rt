@@ -1,6 +1,6 @@
-ghost use Rattle.std.specs.Prelude.{◌≡◌, ℕ, ◌<◌, ◌≤◌, true, length, slice_index};
+ghost use Rattle.std.specs.Prelude.{◌≡◌, ◌<◌, ◌≤◌, length, slice_index};
 ghost use Rattle.plan.specs.Of.{plan_contents};
-ghost use Rattle.table.specs.Rows.{has_length, tasks_in};
+ghost use Rattle.table.specs.Rows.{KeepsLengths, tasks_in};
 
 use plan::plan::Plan;
 use rules::task::Task;
@@ -13,8 +13,7 @@ pub struct Table<'a> {
     pub rows: &'a [Task; 64],
     ghost all_records: { length rows.now ≡ 64 },
     ghost known_tasks: { tasks ≤ length (plan_contents plan.now).tasks },
-    ghost known_lengths: { (q : ℕ) →
-        has_length (plan_contents plan.now) q (tasks_in tasks rows.now q).state ≡ true },
+    ghost keeps_lengths: { KeepsLengths (plan_contents plan.now) (tasks_in tasks rows.now) },
 }
 
 impl Table<'_> {

@@ -6,12 +6,12 @@ use Rattle.rules.specs.States.{idle_task, in_state, asked_state}
 use Rattle.rules.specs.declared.task.State.{State}
 use Rattle.rules.specs.declared.task.Task.{Task}
 use Rattle.rules.specs.declared.task.Wanted.{Wanted}
-use Rattle.table.specs.Rows.{has_length, tasks_in}
+use Rattle.table.specs.Rows.{keeps_length, tasks_in}
 use Rattle.controller.specs.Of.{setup_of, snapshot_of}
 use Rattle.controller.proofs.Answering.{ask_answered, ask_refused}
 use Rattle.controller.proofs.Checking.{yes_parts}
 use Rattle.controller.proofs.Same.{same_controllers, same_setup}
-use Rattle.controller.proofs.Tasks.{each_set, tasks_written, tasks_moved, lengths_one, length_asked}
+use Rattle.controller.proofs.Tasks.{each_set, tasks_written, tasks_moved, lengths_one, lengths_asked}
 use Rattle.controller.proofs.controller.Controller.do_ask.Goals as goal
 
 pub returns-in_err-answer : goal.returns-in_err-answer
@@ -47,8 +47,8 @@ invariant_of-self-2-clause-blocked_ticks g c =
     rw (c.store.ensures.stored here) (each_set few self.table.rows t c.in_state-record.result idle_task new self.blocked_ticks)
 
 -- the request is one for which a length is declared
-pub invariant_of-self-2-clause-known_lengths : goal.invariant_of-self-2-clause-known_lengths
-invariant_of-self-2-clause-known_lengths g c =
+pub invariant_of-self-2-clause-keeps_lengths : goal.invariant_of-self-2-clause-keeps_lengths
+invariant_of-self-2-clause-keeps_lengths g c =
     let self = c.args.self.now in
     let p = plan_contents self.plan in
     let t = c.args.task in
@@ -57,9 +57,9 @@ invariant_of-self-2-clause-known_lengths g c =
     let known = yes_parts 4 _ _ (yes_parts 3 _ _ (yes_parts 2 _ _ task.1).1).1 in
     let lt : t < self.tasks = ltb-true _ _ task.0 in
     let here : t < 64 = omega arith in
-    let state : c.in_state-record.result.state ≡ asked_state c.in_ok-answer.answer wanted = ap (λ (k : Task). k.state) c.in_state-record.ensures ∙ c.asked_state-state.ensures in
-    lengths_one p (tasks_in self.tasks self.table.rows) (tasks_in self.tasks c.store.new.self.rows) t c.in_state-record.result self.known_lengths
-    (ap (has_length p t) state ∙ (length_asked p t c.in_ok-answer.answer wanted ∙ known.0))
+    let record_is : c.in_state-record.result ≡ in_state (asked_state c.in_ok-answer.answer wanted) (get_or self.table.rows t idle_task) = c.in_state-record.ensures ∙ ap (λ (st : State). in_state st (get_or self.table.rows t idle_task)) c.asked_state-state.ensures in
+    lengths_one p (tasks_in self.tasks self.table.rows) (tasks_in self.tasks c.store.new.self.rows) t c.in_state-record.result self.keeps_lengths
+    (ap (λ (k : Task). keeps_length p t k.used k.state) record_is ∙ lengths_asked p t c.in_ok-answer.answer wanted known.0)
     (tasks_written self.tasks self.table.rows c.store.new.self.rows t c.in_state-record.result lt self.few_tasks self.all_records (c.store.ensures.stored here))
 
 pub returns : goal.returns

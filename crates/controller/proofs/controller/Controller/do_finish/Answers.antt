@@ -7,12 +7,12 @@ use Rattle.rules.specs.States.{wanted_of, asked_state, issued_state, in_state, i
 use Rattle.rules.specs.declared.task.State.{State}
 use Rattle.rules.specs.declared.task.Task.{Task}
 use Rattle.rules.specs.declared.task.Wanted.{Wanted}
-use Rattle.table.specs.Rows.{has_length, tasks_in}
+use Rattle.table.specs.Rows.{keeps_length, tasks_in}
 use Rattle.controller.specs.Of.{setup_of, snapshot_of}
 use Rattle.controller.proofs.Checking.{yes_parts}
 use Rattle.controller.proofs.Finishing.{state_issued, next_same, next_other, finish_plain, finish_issued, finish_refused}
 use Rattle.controller.proofs.Same.{same_controllers, same_setup}
-use Rattle.controller.proofs.Tasks.{each_set, task_here, tasks_written, tasks_moved, lengths_one, length_wanted, length_asked}
+use Rattle.controller.proofs.Tasks.{each_set, task_here, tasks_written, tasks_moved, lengths_one, length_wanted, lengths_asked}
 use Rattle.controller.proofs.controller.Controller.do_finish.Goals as goal
 
 pub returns-in_default : goal.returns-in_default
@@ -84,8 +84,8 @@ invariant_of-self-2-clause-blocked_ticks g c =
     each_set few rows u c.in_state.result idle_task (subst few (sym c.in_state.ensures) (ended u)) ended
 
 -- the request that is issued is the one that was held back
-pub invariant_of-self-2-clause-known_lengths : goal.invariant_of-self-2-clause-known_lengths
-invariant_of-self-2-clause-known_lengths g c =
+pub invariant_of-self-2-clause-keeps_lengths : goal.invariant_of-self-2-clause-keeps_lengths
+invariant_of-self-2-clause-keeps_lengths g c =
     let self = c.args.self.now in
     let p = plan_contents self.plan in
     let t = c.args.task in
@@ -94,13 +94,13 @@ invariant_of-self-2-clause-known_lengths g c =
     let next = c.in-Some.ensures in
     let lt : t < self.tasks = ltb-true _ _ (yes_parts 1 _ _ c.in_ok-check.ensures).0 in
     let long : length rows ≡ 64 = length-set self.table.rows t idle_task ∙ self.all_records in
-    let known = lengths_one p (tasks_in self.tasks self.table.rows) (tasks_in self.tasks rows) t idle_task self.known_lengths refl (tasks_written self.tasks self.table.rows rows t idle_task lt self.few_tasks self.all_records refl) in
-    let state = (tasks_in self.tasks rows u).state in
-    let wanted : c.wanted_of-wanted.result ≡ wanted_of state = c.wanted_of-wanted.ensures ∙ ap (λ (k : Task). wanted_of k.state) (sym (task_here self.tasks rows u next.known.0)) in
-    let declared : is_some (length_at p u c.wanted_of-wanted.result.resource) ≡ true = ap (λ (w : Wanted). is_some (length_at p u w.resource)) wanted ∙ (sym (length_wanted p u state next.known.1) ∙ known u) in
-    let asked : c.in_state.result.state ≡ asked_state c.issued.result c.wanted_of-wanted.result = ap (λ (k : Task). k.state) c.in_state.ensures ∙ c.asked_state.ensures in
+    let known = lengths_one p (tasks_in self.tasks self.table.rows) (tasks_in self.tasks rows) t idle_task self.keeps_lengths refl (tasks_written self.tasks self.table.rows rows t idle_task lt self.few_tasks self.all_records refl) in
+    let job = tasks_in self.tasks rows u in
+    let wanted : c.wanted_of-wanted.result ≡ wanted_of job.state = c.wanted_of-wanted.ensures ∙ ap (λ (k : Task). wanted_of k.state) (sym (task_here self.tasks rows u next.known.0)) in
+    let declared : is_some (length_at p u c.wanted_of-wanted.result.resource) ≡ true = ap (λ (w : Wanted). is_some (length_at p u w.resource)) wanted ∙ length_wanted p u job.used job.state next.known.1 (known u) in
+    let record_is : c.in_state.result ≡ in_state (asked_state c.issued.result c.wanted_of-wanted.result) (get_or rows u idle_task) = c.in_state.ensures ∙ ap (λ (st : State). in_state st (get_or rows u idle_task)) c.asked_state.ensures in
     lengths_one p (tasks_in self.tasks rows) (tasks_in self.tasks (set rows u c.in_state.result)) u c.in_state.result known
-    (ap (has_length p u) asked ∙ (length_asked p u c.issued.result c.wanted_of-wanted.result ∙ declared))
+    (ap (λ (k : Task). keeps_length p u k.used k.state) record_is ∙ lengths_asked p u c.issued.result c.wanted_of-wanted.result declared)
     (tasks_written self.tasks rows (set rows u c.in_state.result) u c.in_state.result next.known.0 self.few_tasks long refl)
 
 pub returns : goal.returns

@@ -1,4 +1,4 @@
-use Rattle.std.proofs.Common.{◌≡◌, ℕ, ◌<◌, ◌≤◌, Bool, true, List, get_or, None, sym, ap, subst, ◌∙◌, inl, ⊎_elim, arith}
+use Rattle.std.proofs.Common.{◌≡◌, ℕ, ◌<◌, ◌≤◌, Bool, true, false, List, get_or, None, sym, refl, ap, subst, ◌∙◌, inl, ⊎_elim, arith}
 use Rattle.std.proofs.lemmas.Bool.{cases_lt}
 use Rattle.std.proofs.lemmas.Result.{err_from_is_err_and}
 use Rattle.rules.specs.Jobs.{Setup, Snapshot}
@@ -11,7 +11,7 @@ use Rattle.table.specs.Rows.{tasks_in}
 use Rattle.table.proofs.Ranks.{tasks_past}
 use Rattle.controller.specs.Of.{setup_of, snapshot_of}
 use Rattle.controller.specs.Ticks.{TicksTask}
-use Rattle.controller.proofs.Tasks.{task_here}
+use Rattle.controller.proofs.Tasks.{task_here, lengths_all_ticked}
 use Rattle.controller.proofs.controller.Controller.tick_all.Goals as goal
 
 -- lateness by the record of a task
@@ -38,13 +38,22 @@ ticked_tasks n rows new h q =
     (λ (far : n ≤ q). tasks_past n new q (inl far) ∙ ap ticked_task (sym (tasks_past n rows q (inl far))))
     (cases_lt q n)
 
+-- past the tasks nobody holds
+on_time_all : (a : Setup) (s : Snapshot) → ((q : ℕ) → a.tasks ≤ q → s.tasks q ≡ idle_task) → ((q : ℕ) → q < a.tasks → late a s q ≡ false) → (q : ℕ) → late a s q ≡ false
+on_time_all a s idle under q =
+    ⊎_elim (λ (l : q < a.tasks). under q l) (λ (far : a.tasks ≤ q). late_here a s q idle_task false (idle q far) refl) (cases_lt q a.tasks)
+
 pub returns : goal.returns
 returns g c =
     let self = c.args.self.now in
+    let a = setup_of g.B.Bank self in
+    let s = snapshot_of g.B.Bank self in
     let inv = c.loop-t.invariant in
+    let ticked = ticked_tasks self.tasks self.table.rows c.loop-t.rows (λ k lt. inv.2 k (omega arith)) in
     record {
       on_time = lowest_nothing (late (setup_of g.B.Bank self) (snapshot_of g.B.Bank self)) self.tasks (λ k lt. inv.0 k (omega arith));
       all = inv.1;
-      tasks = ticked_tasks self.tasks self.table.rows c.loop-t.rows (λ k lt. inv.2 k (omega arith));
+      tasks = ticked;
       few = inv.4;
+      lengths = lengths_all_ticked a s (tasks_in self.tasks c.loop-t.rows) self.keeps_lengths (on_time_all a s (λ q far. tasks_past self.tasks self.table.rows q (inl far)) (λ q lt. inv.0 q (omega arith))) ticked;
     }

@@ -3,7 +3,7 @@ use Rattle.plan.proofs.Lawful.{lawful}
 use Rattle.rules.specs.States.{idle_task}
 use Rattle.rules.specs.declared.task.Task.{Task}
 use Rattle.plan.specs.Of.{plan_contents}
-use Rattle.table.specs.Rows.{has_length}
+use Rattle.table.specs.Rows.{keeps_length}
 use Rattle.table.proofs.Rows.{same_all}
 use Rattle.controller.proofs.Beginning.{idle_all}
 use Rattle.controller.proofs.controller.Controller.with_tasks.Goals as goal
@@ -22,7 +22,7 @@ invariant_of-result g c =
       releases_end = omega arith;
       all_records = refl;
       blocked_ticks = never_blocked;
-      known_lengths = λ q. ap (λ (k : Task). has_length (plan_contents c.args.plan.now) q k.state) (idle_all c.args.tasks q);
+      keeps_lengths = λ q. ap (λ (k : Task). keeps_length (plan_contents c.args.plan.now) q k.used k.state) (idle_all c.args.tasks q);
     }
 
 pub returns-clause-idle : goal.returns-clause-idle
