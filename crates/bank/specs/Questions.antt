@@ -1,5 +1,5 @@
 -- The questions that a bank puts, in order; the first answered no decides.
-use Rattle.std.specs.Prelude.{◌≡◌, ℕ, ◌<◌, ◌≤◌, Bool, true, not, List, [], ◌∷◌, length, Some, None, Ok, Err, Result, nat_lt}
+use Rattle.std.specs.Prelude.{◌≡◌, ℕ, Bool, true, not, List, [], ◌∷◌, length, Some, None, Ok, Err, Result, nat_lt}
 use Rattle.text.specs.Questions.{Question, ask, first_no}
 use Rattle.bank.specs.Lists.{is_active, is_holder}
 use Rattle.bank.specs.declared.refusal.Refusal.{Refusal}
@@ -31,8 +31,16 @@ abbrev pub knows : Told → ℕ → Mode → Bool
 knows t r Write = true
 knows t r Read = t.reads r
 
+-- is there a resource of this number among so many?
+abbrev pub index_questions : ℕ → ℕ → List Question
+index_questions count r = ask 2 (nat_lt r count) ∷ []
+
+-- is there a party of this number?
+abbrev pub check_party_questions : ℕ → List Question
+check_party_questions p = ask 12 (nat_lt p 64) ∷ []
+
 abbrev pub resource_questions : Told → ℕ → List Question
-resource_questions t r = ask 2 (nat_lt r t.resources) ∷ []
+resource_questions t r = index_questions t.resources r
 
 abbrev pub limit_questions : Told → ℕ → Mode → List Question
 limit_questions t r m = ask 2 (nat_lt r t.resources) ∷ (ask 3 (knows t r m) ∷ [])
@@ -53,10 +61,8 @@ Tells questions value (Err why) = first_no questions ≡ Some (number why)
 
 -- a party is below 64, or refused
 abbrev pub IsParty : ℕ → Result (Unit {0}) Refusal → Type 0
-IsParty p (Ok done) = p < 64
-IsParty p (Err why) = (64 ≤ p) × (why ≡ NoParty)
+IsParty p result = Tells (check_party_questions p) tt result
 
 -- the place of a resource among so many, or the refusal where there is none
 abbrev pub IsIndex : ℕ → ℕ → Result ℕ Refusal → Type 0
-IsIndex count r (Ok at) = (r < count) × (at ≡ r)
-IsIndex count r (Err why) = (count ≤ r) × (why ≡ NoResource)
+IsIndex count r result = Tells (index_questions count r) r result

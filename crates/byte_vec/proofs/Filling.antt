@@ -1,8 +1,8 @@
 -- What a change of the places does to the bytes, and that the places behind them are still 0.
-use Rattle.std.specs.Prelude.{◌≡◌, ℕ, ◌+◌, ◌-◌, ◌<◌, ◌≤◌, List, ◌∷◌, ◌++◌, length, take, drop, replicate, slice_set, slice_index, suc}
+use Rattle.std.specs.Prelude.{◌≡◌, ℕ, ◌+◌, ◌-◌, ◌<◌, ◌≤◌, List, ◌++◌, length, take, drop, replicate, slice_set, slice_index}
 use Rattle.std.proofs.Common.{sym, ap, ◌∙◌, arith, ⊎_elim}
 use Rattle.std.specs.List.{remove}
-use Rattle.std.proofs.lemmas.List.{length-take-le, take-append-drop, length-append, length-drop, length-set, drop-set, drop-replicate, drop-drop, get_or-take, get_or-drop, ext_get_or, take-set}
+use Rattle.std.proofs.lemmas.List.{length-take-le, take-append-drop, length-append, length-drop, drop-replicate, drop-drop, get_or-take, ext_get_or, take-set}
 use Rattle.std.proofs.lemmas.List.Edits.{length-remove, get_or-remove_below, get_or-remove_above}
 use Rattle.std.proofs.lemmas.Slice.{take-put_mid, drop-put_mid}
 use borrow.Rule.Slice.PartMut.{put_mid}
@@ -13,20 +13,7 @@ pub zeros_behind : (n : ℕ) (ps : List ℕ) (len k : ℕ) → Filled n ps len �
 zeros_behind n ps len k f = sym (drop-drop k len ps) ∙ (ap (λ xs. drop k xs) f.behind ∙ (drop-replicate k (n - len) 0 ∙ ap (λ m. replicate m 0) (omega arith)))
 
 -- the bytes behind a place, one place further to the front, and the last place 0
-module _ (n : ℕ) (ps qs : List ℕ) (len i : ℕ) (f : Filled n ps len) (l : i < len) (long : length qs ≡ length ps) (copied : (k : ℕ) → i ≤ k → k + 1 < len → slice_index qs k ≡ slice_index ps (k + 1)) (below : (k : ℕ) → k < i → slice_index qs k ≡ slice_index ps k) (from : (k : ℕ) → len - 1 ≤ k → slice_index qs k ≡ slice_index ps k) where
-  same_from : drop len qs ≡ drop len ps
-  same_from = ext_get_or 0 (drop len qs) (drop len ps) (omega (arith, length-drop len qs, length-drop len ps)) (λ k h. get_or-drop len qs k 0 ∙ (from (len + k) (omega arith) ∙ sym (get_or-drop len ps k 0)))
-
-  pub filled_remove : Filled n (slice_set qs (len - 1) 0) (len - 1)
-  filled_remove =
-      let e : (len - 1) + 1 ≡ len = omega arith in
-      let m : n - (len - 1) ≡ suc (n - len) = omega (arith, f.within) in
-      record {
-        whole = length-set qs (len - 1) 0 ∙ (long ∙ f.whole);
-        within = omega (arith, f.within);
-        behind = drop-set qs (len - 1) 0 (omega (arith, f.whole, f.within)) ∙ (ap (λ j. 0 ∷ drop j qs) e ∙ (ap (λ xs. 0 ∷ xs) (same_from ∙ f.behind) ∙ sym (ap (λ j. replicate j 0) m)));
-      }
-
+module _ (n : ℕ) (ps qs : List ℕ) (len i : ℕ) (f : Filled n ps len) (l : i < len) (long : length qs ≡ length ps) (copied : (k : ℕ) → i ≤ k → k + 1 < len → slice_index qs k ≡ slice_index ps (k + 1)) (below : (k : ℕ) → k < i → slice_index qs k ≡ slice_index ps k) where
   pub taken_remove : take (len - 1) (slice_set qs (len - 1) 0) ≡ remove (take len ps) i
   taken_remove =
       let a : length (take len ps) ≡ len = length-take-le len ps (omega (arith, f.whole, f.within)) in

@@ -7,7 +7,7 @@ use Rattle.std.proofs.lemmas.List.Recursion.{is_position_or_len, is_count_by}
 use Rattle.std.specs.List.{position_or_len, refill}
 use Rattle.readers_writers.specs.Lines.{some, count_of, holder_of, mode_of, removed, passed, left}
 use Rattle.readers_writers.specs.Places.{blank, place_of, parted}
-use Rattle.readers_writers.specs.PlacesLemmas.{place_some, removed_at, mode_at}
+use Rattle.readers_writers.proofs.PlacesLemmas.{place_some, removed_at, mode_at}
 use Rattle.readers_writers.specs.declared.entry.Entry.{Entry}
 
 found_by : (b : Bool) (k i : ℕ) → ◌≡◌ {A = Option ℕ} (cond b (Some k) None) (Some i) → (b ≡ true) × (i ≡ k)

@@ -6,9 +6,5 @@ pub mod Of
 pub mod Places
 pub mod Told
 pub mod ReadersWritersBankLemmas
-pub mod BanksLemmas
-pub mod Entering
 pub mod Some
-pub mod Leaving
 pub mod Sound
-pub mod PlacesLemmas

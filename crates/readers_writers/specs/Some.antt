@@ -1,15 +1,11 @@
 -- Tests over the entries of a list.
-use Rattle.std.specs.Prelude.{◌≡◌, ℕ, ◌+◌, ◌≤◌, Bool, true, false, cond, ◌||◌, List, [], ◌∷◌, ◌++◌, length, refl}
+use Rattle.std.specs.Prelude.{◌≡◌, ℕ, ◌+◌, ◌≤◌, Bool, true, false, cond, List, [], ◌∷◌, length, refl}
 use Rattle.std.proofs.Common.{arith}
 use Rattle.std.proofs.lemmas.Bool.{or_parts, or_from, cond-false}
 use Rattle.std.proofs.lemmas.Bool.Decides.{nat_tests}
 use Rattle.readers_writers.specs.Lines.{some, count_of, is_holder}
 use Rattle.readers_writers.specs.Kept.{waits}
 use Rattle.readers_writers.specs.declared.entry.Entry.{Entry}
-
--- an entry that holds
-abbrev pub held : Entry → Entry
-held e = record { party = e.party; mode = e.mode; holds = true }
 
 module _ (f : Entry → Bool) where
   pub some_count : (es : List Entry) → some f es ≡ false → count_of f es ≡ 0
@@ -22,14 +18,6 @@ module _ (f : Entry → Bool) where
   pub some_least : (es : List Entry) → some f es ≡ true → 1 ≤ count_of f es
   some_least [] z = absurd (grind (arith, nat_tests))
   some_least (e ∷ es) z = let more : some f es ≡ true → 1 ≤ count_of f es = some_least es in grind (arith, nat_tests)
-
-  pub some_push : (es : List Entry) (x : Entry) → some f (es ++ (x ∷ [])) ≡ (some f es || f x)
-  some_push [] x = grind (arith, nat_tests)
-  some_push (e ∷ es) x = let more = some_push es x in grind (arith, nat_tests)
-
-  pub count_push : (es : List Entry) (x : Entry) → count_of f (es ++ (x ∷ [])) ≡ count_of f es + cond (f x) 1 0
-  count_push [] x = omega arith
-  count_push (e ∷ es) x = omega (arith, count_push es x)
 
 pub some_fewer : (f g : Entry → Bool) → ((e : Entry) → f e ≡ false → g e ≡ false) → (es : List Entry) → some f es ≡ false → some g es ≡ false
 some_fewer f g h [] z = refl

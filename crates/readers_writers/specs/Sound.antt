@@ -4,12 +4,12 @@ use Rattle.std.proofs.Common.{sym, ap, subst, ◌∙◌, inl, inr, ⊎_elim, ari
 use Rattle.std.specs.List.{AllByRecursion}
 use Rattle.std.proofs.lemmas.Bool.{true≢false, false≢true, ltb-true, and_parts, or_parts, or_left, not-true, cond-true, cond-false, cases_Bool}
 use Rattle.std.proofs.lemmas.Bool.Decides.{nat_tests}
-use Rattle.bank.specs.Lists.{count, any, holds, holds_write, holds_read, holds_by, is_write}
+use Rattle.bank.specs.Lists.{count, holds, holds_write, holds_read, is_write}
 use Rattle.bank.specs.Meaning.{Lawful, Sound}
 use Rattle.bank.specs.declared.request.Mode.{Mode}
 use Rattle.bank.specs.declared.request.Mode.TheVariants.{Write, Read}
 use Rattle.bank.specs.declared.request.Request.{Request}
-use Rattle.readers_writers.specs.Lines.{some, count_of, is_holder, is_writer, holding_writer, holder_of, request_of, requests_from, requests}
+use Rattle.readers_writers.specs.Lines.{some, count_of, is_holder, is_writer, holding_writer, request_of, requests_from, requests}
 use Rattle.readers_writers.specs.Kept.{ordered, good, named, waits}
 use Rattle.readers_writers.specs.Told.{told}
 use Rattle.readers_writers.specs.declared.entry.Entry.{Entry}
@@ -20,10 +20,6 @@ module _ (f : Request → Bool) (g : Entry → Bool) (same : (b : Bool) (h n : �
   count_requests : (b : Bool) (h n : ℕ) (es : List Entry) → count f (requests_from b h n es) ≡ count_of g es
   count_requests b h n [] = refl
   count_requests b h n (e ∷ es) = let a = same b h n e in let more = count_requests b h (n + cond (is_writer e) 1 0) es in cc
-
-  pub any_requests : (b : Bool) (h n : ℕ) (es : List Entry) → any f (requests_from b h n es) ≡ some g es
-  any_requests b h n [] = refl
-  any_requests b h n (e ∷ es) = let a = same b h n e in let more = any_requests b h (n + cond (is_writer e) 1 0) es in cc
 
 -- a request has its entry's party, mode and holding
 fields : (b : Bool) (h n p : ℕ) (m : Mode) (g : Bool) → ((request_of b h n (record { party = p; mode = m; holds = g })).party ≡ p) × ((request_of b h n (record { party = p; mode = m; holds = g })).mode ≡ m) × (holds (request_of b h n (record { party = p; mode = m; holds = g })) ≡ g)
@@ -48,9 +44,6 @@ holding_read e = e.holds && not (is_write e.mode)
 
 reads_same : (b : Bool) (h n : ℕ) (e : Entry) → holds_read (request_of b h n e) ≡ holding_read e
 reads_same b h n e = let a = request_mode b h n e in let c = request_holds b h n e in cc
-
-pub holder_same : (p : ℕ) (b : Bool) (h n : ℕ) (e : Entry) → holds_by p (request_of b h n e) ≡ holder_of p e
-holder_same p b h n e = let a = request_party b h n e in let c = request_holds b h n e in cc
 
 -- a waiting request with n writers before it, of m at most
 lawful_one : (c m r t h n p : ℕ) (b : Bool) (k : Mode) (g : Bool) → p < 64 → 1 ≤ h → h ≤ t → (g ≡ false → ((n + 1) + cond b 0 1 ≤ m) × (n ≡ 0 → (is_write k ≡ true) × (b ≡ false))) → Lawful (told c m) r t (request_of b h n (record { party = p; mode = k; holds = g }))

@@ -52,7 +52,7 @@ impl Line {
     }
 
     // Whether a request of this mode holds at once.
-    #[tactic(auto, using(crate::specs::PlacesLemmas::nobody))]
+    #[tactic(auto, using(crate::proofs::PlacesLemmas::nobody))]
     fn admits(&self, mode: Mode) -> bool
         ensures { result ≡ admits (list_of self.now) mode }
     {
@@ -120,7 +120,7 @@ impl Line {
     }
 
     /// How many are active.
-    #[tactic(auto, using(crate::specs::PlacesLemmas::length_requests))]
+    #[tactic(auto, using(crate::proofs::PlacesLemmas::length_requests))]
     pub(crate) fn active(&self) -> u32
         ensures { result ≡ length (requests (list_of self.now)) }
     {
@@ -171,7 +171,7 @@ impl Line {
     }
 
     /// The request of a party, if it has one.
-    #[tactic(auto, using(crate::proofs::Positions::found, crate::specs::PlacesLemmas::request_of_lem))]
+    #[tactic(auto, using(crate::proofs::Positions::found, crate::proofs::PlacesLemmas::request_of_lem))]
     pub(crate) fn request_of(&self, party: u8) -> Option<Request>
         ensures { result ≡ request_of party (requests (list_of self.now)) }
     {

@@ -1,2 +1,5 @@
 pub mod Changes
+pub mod Meaning
 pub mod Places
+pub mod Requests
+pub mod Rows

@@ -4,4 +4,3 @@ pub mod Of
 pub mod Rows
 pub mod Requests
 pub mod Meaning
-pub mod RowsLemmas

@@ -24,7 +24,7 @@ impl Line {
     }
 
     // How many are active.
-    #[tactic(auto, using(crate::specs::Requests::length_requests))]
+    #[tactic(auto, using(crate::proofs::Requests::length_requests))]
     pub(crate) fn size(&self) -> u32
         ensures parties { result ≡ length (row self.now) }
         ensures requests { result ≡ length (requests self.now.slots (row self.now)) }
@@ -91,7 +91,7 @@ impl Line {
     }
 
     // The request of a party, if it has one.
-    #[tactic(auto, using(crate::proofs::Places::found, crate::proofs::Places::missing, crate::specs::Requests::request_found, crate::specs::Requests::request_none))]
+    #[tactic(auto, using(crate::proofs::Places::found, crate::proofs::Places::missing, crate::proofs::Requests::request_found, crate::proofs::Requests::request_none))]
     pub(crate) fn request_of(&self, party: u8) -> Option<Request>
         requires { 1 ≤ self.now.slots }
         ensures { result ≡ request_of party (requests self.now.slots (row self.now)) }

@@ -67,7 +67,7 @@ impl Bank for Slots {
         Ok(self.lines[at].request_of(party as u8))
     }
 
-    #[tactic(auto, using(crate::specs::Meaning::enters_last, crate::specs::Meaning::is_full))]
+    #[tactic(auto, using(crate::proofs::Meaning::enters_last, crate::proofs::Meaning::is_full))]
     fn enter(&mut self, resource: u32, party: u32, mode: Mode) -> Result<bool, Refusal>
         ensures told { told_of self.new ≡ told_of self.old }
         ensures enters { Enters (told_of self.old) resource party mode result (active_of self.old) (active_of self.new) }
@@ -78,7 +78,7 @@ impl Bank for Slots {
         self.take_in(resource, party, mode)
     }
 
-    #[tactic(auto, using(crate::specs::Meaning::leaves_place, crate::specs::Meaning::next_holds, crate::specs::Meaning::is_full))]
+    #[tactic(auto, using(crate::proofs::Meaning::leaves_place, crate::proofs::Meaning::next_holds, crate::proofs::Meaning::is_full))]
     fn leave(&mut self, resource: u32, party: u32) -> Result<(), Refusal>
         ensures told { told_of self.new ≡ told_of self.old }
         ensures leaves { Leaves (told_of self.old) resource party result (active_of self.old) (active_of self.new) }

@@ -4,7 +4,7 @@ use Rattle.std.proofs.lemmas.List.Edits.{map_over_more}
 use Rattle.std.proofs.lemmas.List.{get_or_default}
 use Rattle.readers_writers.specs.Lines.{is_writer}
 use Rattle.readers_writers.specs.Places.{blank, read_held}
-use Rattle.readers_writers.specs.Some.{held}
+use Rattle.readers_writers.proofs.Pushed.{held}
 use Rattle.readers_writers.proofs.line.reads_hold.Goals as goal
 use Rattle.readers_writers.proofs.line.reads_hold.Goals.{then-not-is_writer, else-not-is_writer}
 

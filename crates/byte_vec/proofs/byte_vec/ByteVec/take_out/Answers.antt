@@ -17,5 +17,4 @@ returns g c =
     let lt : i < len = c.if-place-self.false in
     let copied : (k : ℕ) → i ≤ k → k + 1 < len → get_or qs k 0 ≡ get_or ps (k + 1) 0 = λ k f h. let e : (i + 1) + (k - i) ≡ k + 1 = omega arith in o.by_index.0 k 0 f (omega arith) ∙ ap (λ j. get_or ps j 0) e in
     let below : (k : ℕ) → k < i → get_or qs k 0 ≡ get_or ps k 0 = λ k f. o.by_index.1 k 0 f in
-    let from : (k : ℕ) → len - 1 ≤ k → get_or qs k 0 ≡ get_or ps k 0 = λ k f. o.by_index.2 k 0 (omega arith) in
-    (rw (← c.self.view_is) (slice_get-get_or (take len ps) i 0 (omega (arith, length_of_filled n ps len c.self.invariant)) ∙ ap (λ b. Some b) (get_or-take len ps i 0 lt)), taken_remove n ps qs len i c.self.invariant lt o.len copied below from ∙ ap (λ xs. remove xs i) c.self.view_is)
+    (rw (← c.self.view_is) (slice_get-get_or (take len ps) i 0 (omega (arith, length_of_filled n ps len c.self.invariant)) ∙ ap (λ b. Some b) (get_or-take len ps i 0 lt)), taken_remove n ps qs len i c.self.invariant lt o.len copied below ∙ ap (λ xs. remove xs i) c.self.view_is)

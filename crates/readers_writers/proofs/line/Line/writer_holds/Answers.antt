@@ -3,8 +3,8 @@ use Rattle.std.proofs.lemmas.List.{length-set, set_past}
 use Rattle.readers_writers.specs.Lines.{is_writer}
 use Rattle.readers_writers.specs.Of.{list_of}
 use Rattle.readers_writers.specs.Places.{blank}
-use Rattle.readers_writers.specs.PlacesLemmas.{writer_at}
-use Rattle.readers_writers.specs.Some.{held}
+use Rattle.readers_writers.proofs.PlacesLemmas.{writer_at}
+use Rattle.readers_writers.proofs.Pushed.{held}
 use Rattle.readers_writers.proofs.Positions.{found, missing, place_past, refilled}
 use Rattle.readers_writers.proofs.line.Line.writer_holds.Goals as goal
 

@@ -1,11 +1,12 @@
 use Rattle.std.proofs.Common.{◌≡◌, ◌<◌, true, false, length, nat_eq, Ok, slice_set, subst, ap, sym, ◌∙◌, arith}
 use Rattle.std.proofs.lemmas.List.{length-set}
+use Rattle.bank.proofs.Places.{index_below, party_below}
 use Rattle.bank.specs.Meaning.{Enters}
 use Rattle.readers_writers.specs.Banks.{told_of, active_of}
 use Rattle.readers_writers.specs.Lines.{some, entered, admits, requests}
 use Rattle.readers_writers.specs.Of.{entries_of, list_of, AllKeep}
-use Rattle.readers_writers.specs.BanksLemmas.{enter_active, enter_seat, entering, keep_entered}
-use Rattle.readers_writers.specs.PlacesLemmas.{length_requests}
+use Rattle.readers_writers.proofs.BanksLemmas.{enter_active, enter_seat, entering, keep_entered}
+use Rattle.readers_writers.proofs.PlacesLemmas.{length_requests}
 use Rattle.readers_writers.proofs.Places.{line_at}
 use Rattle.readers_writers.proofs.lines.ReadersWriters.enter_line.Goals as goal
 
@@ -17,8 +18,8 @@ returns-then-is_active-clause-enters c =
     let k = c.args.mode in
     let at = c.in_ok-at.at in
     let is = c.in_ok-at.ensures.1 in
-    let low = c.in_ok-check_party.ensures in
-    let a : r < b.count = omega (arith, c.in_ok-at.ensures.0) in
+    let low = party_below p c.in_ok-check_party.ensures.0 in
+    let a = index_below b.count r c.in_ok-at.ensures.0 in
     let long : r < length b.lines = omega (arith, b.long, b.few, a) in
     let active : some (λ e. nat_eq e.party p) (entries_of b.lines r) ≡ true = sym (c.if-is_active.ensures ∙ ap (some (λ e. nat_eq e.party p)) (line_at b.lines at r _ long is)) in
     enter_active b.count b.seats r p k (entries_of b.lines r) a low active
@@ -31,8 +32,8 @@ returns-then-active-self-clause-enters c =
     let k = c.args.mode in
     let at = c.in_ok-at.at in
     let is = c.in_ok-at.ensures.1 in
-    let low = c.in_ok-check_party.ensures in
-    let a : r < b.count = omega (arith, c.in_ok-at.ensures.0) in
+    let low = party_below p c.in_ok-check_party.ensures.0 in
+    let a = index_below b.count r c.in_ok-at.ensures.0 in
     let long : r < length b.lines = omega (arith, b.long, b.few, a) in
     let active : some (λ e. nat_eq e.party p) (entries_of b.lines r) ≡ false = sym (c.if-is_active.ensures ∙ ap (some (λ e. nat_eq e.party p)) (line_at b.lines at r _ long is)) in
     let n : c.active.result ≡ length (entries_of b.lines r) = c.active.ensures ∙ (length_requests _ _ 0 _ ∙ ap length (line_at b.lines at r _ long is)) in
@@ -46,8 +47,8 @@ enter-requires c =
     let k = c.args.mode in
     let at = c.in_ok-at.at in
     let is = c.in_ok-at.ensures.1 in
-    let low = c.in_ok-check_party.ensures in
-    let a : r < b.count = omega (arith, c.in_ok-at.ensures.0) in
+    let low = party_below p c.in_ok-check_party.ensures.0 in
+    let a = index_below b.count r c.in_ok-at.ensures.0 in
     let long : r < length b.lines = omega (arith, b.long, b.few, a) in
     let n : c.active.result ≡ length (entries_of b.lines r) = c.active.ensures ∙ (length_requests _ _ 0 _ ∙ ap length (line_at b.lines at r _ long is)) in
     let m = ap length (line_at b.lines at r c.index-lines-at.result long is) in
@@ -61,8 +62,8 @@ invariant_of-self c =
     let k = c.args.mode in
     let at = c.in_ok-at.at in
     let is = c.in_ok-at.ensures.1 in
-    let low = c.in_ok-check_party.ensures in
-    let a : r < b.count = omega (arith, c.in_ok-at.ensures.0) in
+    let low = party_below p c.in_ok-check_party.ensures.0 in
+    let a = index_below b.count r c.in_ok-at.ensures.0 in
     let long : r < length b.lines = omega (arith, b.long, b.few, a) in
     let n : c.active.result ≡ length (entries_of b.lines r) = c.active.ensures ∙ (length_requests _ _ 0 _ ∙ ap length (line_at b.lines at r _ long is)) in
     let new = c.enter.new.self in
@@ -84,8 +85,8 @@ returns-clause-enters c =
     let k = c.args.mode in
     let at = c.in_ok-at.at in
     let is = c.in_ok-at.ensures.1 in
-    let low = c.in_ok-check_party.ensures in
-    let a : r < b.count = omega (arith, c.in_ok-at.ensures.0) in
+    let low = party_below p c.in_ok-check_party.ensures.0 in
+    let a = index_below b.count r c.in_ok-at.ensures.0 in
     let long : r < length b.lines = omega (arith, b.long, b.few, a) in
     let active : some (λ e. nat_eq e.party p) (entries_of b.lines r) ≡ false = sym (c.if-is_active.ensures ∙ ap (some (λ e. nat_eq e.party p)) (line_at b.lines at r _ long is)) in
     let n : c.active.result ≡ length (entries_of b.lines r) = c.active.ensures ∙ (length_requests _ _ 0 _ ∙ ap length (line_at b.lines at r _ long is)) in

@@ -1,12 +1,13 @@
 use Rattle.std.proofs.Common.{◌≡◌, ◌<◌, length, position, Some, None, Ok, slice_set, subst, ap, sym, ◌∙◌, arith}
 use Rattle.std.proofs.lemmas.List.{length-set}
+use Rattle.bank.proofs.Places.{index_below, party_below}
 use Rattle.bank.specs.Meaning.{Leaves}
 use Rattle.readers_writers.specs.Banks.{told_of, active_of}
 use Rattle.readers_writers.specs.Exactly.{LeavesExactly}
 use Rattle.readers_writers.specs.Lines.{holder_of, left, requests}
 use Rattle.readers_writers.specs.Of.{entries_of, list_of, AllKeep}
 use Rattle.readers_writers.specs.Places.{parted}
-use Rattle.readers_writers.specs.BanksLemmas.{leave_holder, leaving, entries_set, entries_other, keep_left}
+use Rattle.readers_writers.proofs.BanksLemmas.{leave_holder, leaving, entries_set, entries_other, keep_left}
 use Rattle.readers_writers.proofs.Places.{line_at}
 use Rattle.readers_writers.proofs.Positions.{found as found_at, missing, parted_left}
 use Rattle.readers_writers.proofs.lines.ReadersWriters.leave_line.Goals as goal
@@ -18,8 +19,8 @@ returns-in_default-clause-leaves c =
     let p = c.args.party in
     let at = c.in_ok-at.at in
     let is = c.in_ok-at.ensures.1 in
-    let low = c.in_ok-check_party.ensures in
-    let a : r < b.count = omega (arith, c.in_ok-at.ensures.0) in
+    let low = party_below p c.in_ok-check_party.ensures.0 in
+    let a = index_below b.count r c.in_ok-at.ensures.0 in
     let long : r < length b.lines = omega (arith, b.long, b.few, a) in
     let at_old = line_at b.lines at r c.index-self-at.result long is in
     let found : position (holder_of p) (entries_of b.lines r) ≡ None = ap (position (holder_of p)) (sym at_old) ∙ (sym c.holder.ensures ∙ c.in_default.is) in
@@ -32,8 +33,8 @@ invariant_of-self c =
     let p = c.args.party in
     let at = c.in_ok-at.at in
     let is = c.in_ok-at.ensures.1 in
-    let low = c.in_ok-check_party.ensures in
-    let a : r < b.count = omega (arith, c.in_ok-at.ensures.0) in
+    let low = party_below p c.in_ok-check_party.ensures.0 in
+    let a = index_below b.count r c.in_ok-at.ensures.0 in
     let long : r < length b.lines = omega (arith, b.long, b.few, a) in
     let at_old = line_at b.lines at r c.index-self-at.result long is in
     let found : position (holder_of p) (entries_of b.lines r) ≡ Some c.in-Some.holder = ap (position (holder_of p)) (sym at_old) ∙ (sym c.holder.ensures ∙ c.in-Some.is) in
@@ -56,8 +57,8 @@ returns-clause-leaves c =
     let p = c.args.party in
     let at = c.in_ok-at.at in
     let is = c.in_ok-at.ensures.1 in
-    let low = c.in_ok-check_party.ensures in
-    let a : r < b.count = omega (arith, c.in_ok-at.ensures.0) in
+    let low = party_below p c.in_ok-check_party.ensures.0 in
+    let a = index_below b.count r c.in_ok-at.ensures.0 in
     let long : r < length b.lines = omega (arith, b.long, b.few, a) in
     let at_old = line_at b.lines at r c.index-self-at.result long is in
     let found : position (holder_of p) (entries_of b.lines r) ≡ Some c.in-Some.holder = ap (position (holder_of p)) (sym at_old) ∙ (sym c.holder.ensures ∙ c.in-Some.is) in
@@ -75,8 +76,8 @@ returns-clause-exact c =
     let p = c.args.party in
     let at = c.in_ok-at.at in
     let is = c.in_ok-at.ensures.1 in
-    let low = c.in_ok-check_party.ensures in
-    let a : r < b.count = omega (arith, c.in_ok-at.ensures.0) in
+    let low = party_below p c.in_ok-check_party.ensures.0 in
+    let a = index_below b.count r c.in_ok-at.ensures.0 in
     let long : r < length b.lines = omega (arith, b.long, b.few, a) in
     let at_old = line_at b.lines at r c.index-self-at.result long is in
     let found : position (holder_of p) (entries_of b.lines r) ≡ Some c.in-Some.holder = ap (position (holder_of p)) (sym at_old) ∙ (sym c.holder.ensures ∙ c.in-Some.is) in

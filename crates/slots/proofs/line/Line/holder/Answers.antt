@@ -3,7 +3,7 @@ use Rattle.std.proofs.lemmas.Bool.Decides.{nat_tests}
 use Rattle.std.specs.Bool.{then_some}
 use Rattle.std.specs.Option.{IfSome}
 use Rattle.slots.specs.Rows.{row, place}
-use Rattle.slots.specs.Requests.{holder_is}
+use Rattle.slots.proofs.Requests.{holder_is}
 use Rattle.slots.proofs.Places.{found, missing}
 use Rattle.slots.proofs.line.Line.holder.Goals as goal
 

@@ -1,6 +1,6 @@
 use Rattle.std.proofs.Common.{sym, ap, is_some, ◌∙◌}
 use Rattle.slots.specs.Rows.{row}
-use Rattle.slots.specs.Requests.{active_is}
+use Rattle.slots.proofs.Requests.{active_is}
 use Rattle.slots.proofs.Places.{some_is}
 use Rattle.slots.proofs.line.Line.is_active.Goals as goal
 

@@ -4,7 +4,7 @@ use Rattle.std.proofs.lemmas.List.{get_or_default}
 use Rattle.std.proofs.lemmas.Option.{slice_get_past}
 use Rattle.slots.specs.Lines.{request_at, requests}
 use Rattle.slots.specs.Rows.{row}
-use Rattle.slots.specs.Requests.{nth_requests, length_requests}
+use Rattle.slots.proofs.Requests.{nth_requests, length_requests}
 use Rattle.slots.proofs.line.Line.request_at.Goals as goal
 
 pub returns-in_err-party : goal.returns-in_err-party

@@ -1,4 +1,4 @@
-use Rattle.readers_writers.specs.BanksLemmas.{settles}
+use Rattle.readers_writers.proofs.BanksLemmas.{settles}
 use Rattle.readers_writers.proofs.lines.calls.ReadersWritersBank.leave.Goals as goal
 
 pub returns-clause-settled : goal.returns-clause-settled

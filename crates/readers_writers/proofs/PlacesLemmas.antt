@@ -1,15 +1,15 @@
 -- The places of the entries that are looked for.
-use Rattle.std.specs.Prelude.{◌≡◌, ℕ, zero, suc, ◌+◌, ◌-◌, ◌<◌, ◌≤◌, Bool, true, false, cond, not, List, [], ◌∷◌, ◌++◌, map, length, get_or, take, drop, set, Some, ◌==◌, nat_eq, nat_lt, slice_index_or, slice_set, refl}
+use Rattle.std.specs.Prelude.{◌≡◌, ℕ, zero, suc, ◌+◌, ◌<◌, Bool, true, false, cond, not, List, [], ◌∷◌, ◌++◌, map, length, get_or, take, drop, set, Some, ◌==◌, nat_eq, nat_lt, slice_index_or, slice_set, refl}
 use Rattle.std.proofs.Common.{sym, ap, ◌∙◌, ⊎_elim, add-one, add-zero, arith}
 use Rattle.std.specs.List.{slice_get}
-use Rattle.std.proofs.lemmas.List.{take_more, drop_more, take-take, drop-take, length-take-le}
+use Rattle.std.proofs.lemmas.List.{take_more, drop_more}
 use Rattle.std.proofs.lemmas.Bool.{false≢true, cond-true, cond-false, cases_Bool, ltb-true}
 use Rattle.std.proofs.lemmas.Bool.Decides.{nat_tests}
 use Rattle.bank.specs.Lists.{request_of as request_in}
 use Rattle.readers_writers.specs.Lines.{some, count_of, is_writer, holder_of, removed, mode_of, reads_hold, writer_holds, request_of, requests_from}
 use Rattle.readers_writers.specs.Places.{place_of, read_held}
 use Rattle.readers_writers.specs.declared.entry.Entry.{Entry}
-use Rattle.readers_writers.specs.Some.{held, count_push}
+use Rattle.readers_writers.proofs.Pushed.{held, count_push}
 use Rattle.readers_writers.specs.Sound.{request_party}
 
 module _ (f : Entry → Bool) where
@@ -62,11 +62,6 @@ pub reads_map : (es : List Entry) → reads_hold es ≡ map read_held es
 reads_map [] = refl
 reads_map (e ∷ es) = ap (λ ys. read_held e ∷ ys) (reads_map es)
 
-pub reads_take : (n : ℕ) (es : List Entry) → take n (reads_hold es) ≡ reads_hold (take n es)
-reads_take zero es = refl
-reads_take (suc n) [] = refl
-reads_take (suc n) (e ∷ es) = ap (λ ys. read_held e ∷ ys) (reads_take n es)
-
 -- the request at a place, and that of a party
 pub request_at_lem : (b : Bool) (h n : ℕ) (es : List Entry) (i : ℕ) (d : Entry) → i < length es → slice_get (requests_from b h n es) i ≡ Some (request_of b h (n + count_of is_writer (take i es)) (slice_index_or es i d))
 request_at_lem b h n [] i d l = absurd (omega arith)
@@ -94,13 +89,3 @@ request_of_lem p b h n (e ∷ es) =
 pub nobody : (es : List Entry) → not (some (λ e. true) es) ≡ (length es == 0)
 nobody [] = refl
 nobody (e ∷ es) = grind (arith, nat_tests)
-
--- the entries in use, with the first holder of a party taken out
-pub closed : (p n k : ℕ) (xs : List Entry) → n ≤ length xs → some (holder_of p) (take n xs) ≡ true → k ≡ place_of (holder_of p) (take n xs) → take k xs ++ take ((n - 1) - k) (drop (k + 1) xs) ≡ removed p (take n xs)
-closed p n k xs l z e =
-    let w = place_within (holder_of p) (take n xs) z in
-    let m : length (take n xs) ≡ n = length-take-le n xs l in
-    let i : (k + 1) + ((n - 1) - k) ≡ n = omega arith in
-    ap (λ ys. ys ++ take ((n - 1) - k) (drop (k + 1) xs)) (sym (take-take k n xs (omega arith)))
-    ∙ (ap (λ ys. take k (take n xs) ++ ys) (sym (drop-take (k + 1) ((n - 1) - k) xs) ∙ ap (λ j. drop (k + 1) (take j xs)) i)
-    ∙ (ap (λ j. take k (take n xs) ++ drop j (take n xs)) (add-one k) ∙ (ap (λ j. take j (take n xs) ++ drop (suc j) (take n xs)) e ∙ sym (removed_at p (take n xs) z))))

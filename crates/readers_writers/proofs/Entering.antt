@@ -10,8 +10,8 @@ use Rattle.bank.specs.declared.request.Request.{Request}
 use Rattle.readers_writers.specs.Lines.{some, count_of, is_holder, is_writer, holding_writer, collected, admits, entered, request_of, requests_from, requests}
 use Rattle.readers_writers.specs.Kept.{ordered, good, named, waits, settled}
 use Rattle.readers_writers.specs.declared.entry.Entry.{Entry}
-use Rattle.readers_writers.specs.Some.{some_push, count_push}
-use Rattle.readers_writers.specs.Leaving.{good_reading}
+use Rattle.readers_writers.proofs.Pushed.{some_push, count_push}
+use Rattle.readers_writers.proofs.Leaving.{good_reading}
 use Rattle.readers_writers.specs.Sound.{ways, request_party, request_mode, request_holds}
 use Rattle.bank.specs.declared.request.Standing.TheVariants.{Holds}
 

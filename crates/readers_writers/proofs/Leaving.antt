@@ -11,8 +11,10 @@ use Rattle.bank.specs.declared.request.Mode.TheVariants.{Write, Read}
 use Rattle.readers_writers.specs.Lines.{some, count_of, is_holder, is_writer, holding_writer, collected, holder_of, removed, mode_of, reads_hold, writer_holds, passed, left, request_of, requests_from, requests}
 use Rattle.readers_writers.specs.Kept.{ordered, good, named}
 use Rattle.readers_writers.specs.declared.entry.Entry.{Entry}
-use Rattle.readers_writers.specs.Some.{held, some_fewer}
-use Rattle.readers_writers.specs.Sound.{ways, writing, reading, holder_same, request_party, request_mode}
+use Rattle.readers_writers.specs.Some.{some_fewer}
+use Rattle.readers_writers.proofs.Pushed.{held}
+use Rattle.readers_writers.specs.Sound.{ways, writing, reading, request_party, request_mode}
+use Rattle.readers_writers.proofs.Requests.{holder_same}
 
 -- entries that change nothing but their turns and departures
 module _ (b d : Bool) (h k gap : ℕ) (test : Entry → Bool) (step : (i j : ℕ) (e : Entry) → i ≡ j + gap → test e ≡ false → Stays (request_of b h i e) (request_of d k j e)) where

@@ -16,10 +16,11 @@ use Rattle.readers_writers.specs.Of.{list_of, bare, entries_of, Keeping, AllKeep
 use Rattle.readers_writers.specs.Told.{told}
 use Rattle.readers_writers.specs.declared.entry.Entry.{Entry}
 use Rattle.readers_writers.specs.declared.line.Line.{Line}
-use Rattle.readers_writers.specs.Entering.{added, good_entered, named_push, good_settled}
-use Rattle.readers_writers.specs.Leaving.{good_left, kept_left, stays_left}
-use Rattle.readers_writers.specs.PlacesLemmas.{length_requests}
-use Rattle.readers_writers.specs.Sound.{any_requests, request_party, holder_same}
+use Rattle.readers_writers.proofs.Entering.{added, good_entered, named_push, good_settled}
+use Rattle.readers_writers.proofs.Leaving.{good_left, kept_left, stays_left}
+use Rattle.readers_writers.proofs.PlacesLemmas.{length_requests}
+use Rattle.readers_writers.specs.Sound.{request_party}
+use Rattle.readers_writers.proofs.Requests.{any_requests, holder_same}
 
 knows_all : (c m r : ℕ) (k : Mode) → knows (told c m) r k ≡ true
 knows_all c m r Write = refl
@@ -63,14 +64,8 @@ settles lines count m kept r l = good_settled (entries_of lines r) (kept r l).2
 
 -- the questions of enter
 module _ (c m r p : ℕ) (k : Mode) (es : List Entry) where
-  pub enter_resource : c ≤ r → first_no (enter_questions (told c m) r p k (requests es)) ≡ Some 2
-  enter_resource a = cond-false (nat_lt r c) _ _ (le-ltb r c a)
-
   known : {A : Type 0} (x y : A) → cond (knows (told c m) r k) x y ≡ x
   known x y = cond-true (knows (told c m) r k) x y (knows_all c m r k)
-
-  pub enter_party : r < c → 64 ≤ p → first_no (enter_questions (told c m) r p k (requests es)) ≡ Some 12
-  enter_party a b = cond-true (nat_lt r c) _ _ (lt-ltb r c a) ∙ (known _ _ ∙ cond-false (nat_lt p 64) _ _ (le-ltb p 64 b))
 
   to_active : r < c → p < 64 → first_no (enter_questions (told c m) r p k (requests es)) ≡ cond (not (is_active p (requests es))) (cond (nat_lt (length (requests es)) m) None (Some 14)) (Some 13)
   to_active a b = cond-true (nat_lt r c) _ _ (lt-ltb r c a) ∙ (known _ _ ∙ cond-true (nat_lt p 64) _ _ (lt-ltb p 64 b))
@@ -89,12 +84,6 @@ module _ (c m r p : ℕ) (k : Mode) (es : List Entry) where
 
 -- the questions of leave
 module _ (c m r p : ℕ) (es : List Entry) where
-  pub leave_resource : c ≤ r → first_no (leave_questions (told c m) r p (requests es)) ≡ Some 2
-  leave_resource a = cond-false (nat_lt r c) _ _ (le-ltb r c a)
-
-  pub leave_party : r < c → 64 ≤ p → first_no (leave_questions (told c m) r p (requests es)) ≡ Some 12
-  leave_party a b = cond-true (nat_lt r c) _ _ (lt-ltb r c a) ∙ cond-false (nat_lt p 64) _ _ (le-ltb p 64 b)
-
   to_holder : r < c → p < 64 → first_no (leave_questions (told c m) r p (requests es)) ≡ cond (some (holder_of p) es) None (Some 15)
   to_holder a b = cond-true (nat_lt r c) _ _ (lt-ltb r c a) ∙ (cond-true (nat_lt p 64) _ _ (lt-ltb p 64 b) ∙ ap (λ h. cond h None (Some 15)) (holder_entry p es))
 
