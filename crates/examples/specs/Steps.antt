@@ -9,6 +9,7 @@ use Rattle.bank.specs.declared.request.Mode.{Mode}
 use Rattle.bank.specs.declared.request.Request.{Request}
 use Rattle.bank.specs.declared.request.Standing.TheVariants.{Holds as Holding, Waits}
 
+-- a request that holds; one that waits, with so many turns and departures before it
 abbrev pub holder : ℕ → Mode → Request
 holder p m = record { party = p; mode = m; standing = Holding }
 
