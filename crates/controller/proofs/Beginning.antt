@@ -13,6 +13,7 @@ use Rattle.rules.specs.Questions.{all_below, fits, fits_at}
 use Rattle.rules.specs.Runs.{Fitting, Unfit, Begins}
 use Rattle.rules.specs.States.{idle_task}
 use Rattle.rules.specs.declared.task.Task.{Task}
+use Rattle.rules.proofs.Fits.{fits_true, fits_false}
 use Rattle.table.specs.Rows.{tasks_in}
 use Rattle.table.proofs.Rows.{same_all}
 
@@ -44,21 +45,31 @@ fits_by c t lists n b e s m all =
     let whole = all_below (fits_at c t lists) (resource_count c) in
     all ∙ (ap (all_below (fits_at c t lists)) m ∙ sym (ap (λ x. x && (eqb t.seats (processors c) && whole)) (eq-eqb _ _ e) ∙ ap (λ x. x && whole) (eq-eqb _ _ s)))
 
-begun_few : (p : Plan) (a : Setup) (lists : Lists) → a.plan ≡ plan_contents p → Fitting a lists ⊎ Unfit a lists → a.tasks ≤ length (plan_contents p).tasks
-begun_few p a lists e (inl f) = let h = f.tasks ∙ ap (λ (x : Contents). length x.tasks) e in omega arith
-begun_few p a lists e (inr f) = let h = f.tasks in omega arith
+-- what was found: the bank fits, and there are the plan's tasks and resources, or it does not, and there are none
+abbrev Found : Setup → Lists → Type 0
+Found a lists =
+    ((fits a.plan a.told lists ≡ true) × (a.tasks ≡ length a.plan.tasks) × (a.resources ≡ resource_count a.plan))
+    ⊎ ((fits a.plan a.told lists ≡ false) × (a.tasks ≡ 0) × (a.resources ≡ 0))
 
-pub begun : (p : Plan) (a : Setup) (s : Snapshot) → a.plan ≡ plan_contents p → Small a.told → Fitting a s.lists ⊎ Unfit a s.lists → ((q : ℕ) → s.tasks q ≡ idle_task) → s.clock ≡ 0 → s.releases ≡ 0 → Begins a s
-begun p a s e small fitting idle clock releases =
+fitting_of : (a : Setup) (lists : Lists) → Found a lists → Fitting a lists ⊎ Unfit a lists
+fitting_of a lists (inl f) = inl (record { fit = fits_true a.plan a.told lists f.0; tasks = f.1; resources = f.2 })
+fitting_of a lists (inr f) = inr (record { misfit = fits_false a.plan a.told lists f.0; tasks = f.1; resources = f.2 })
+
+begun_few : (p : Plan) (a : Setup) (lists : Lists) → a.plan ≡ plan_contents p → Found a lists → a.tasks ≤ length (plan_contents p).tasks
+begun_few p a lists e (inl f) = let h = f.1 ∙ ap (λ (x : Contents). length x.tasks) e in omega arith
+begun_few p a lists e (inr f) = let h = f.1 in omega arith
+
+pub begun : (p : Plan) (a : Setup) (s : Snapshot) → a.plan ≡ plan_contents p → Small a.told → Found a s.lists → ((q : ℕ) → s.tasks q ≡ idle_task) → s.clock ≡ 0 → s.releases ≡ 0 → Begins a s
+begun p a s e small found idle clock releases =
     let l = lawful p.tables in
-    let known = begun_few p a s.lists e fitting in
+    let known = begun_few p a s.lists e found in
     record {
       set_up =
           record {
             small = small;
             few = omega (arith, l.few_tasks);
             clusters = λ t lt. subst (λ (x : Contents). get_or x.tasks t 0 < length x.clusters) (sym e) (ltb-true _ _ (All-get_or (λ g. ltb g (length (plan_contents p).clusters) ≡ true) (plan_contents p).tasks t 0 (omega arith) l.tasks));
-            fitting = fitting;
+            fitting = fitting_of a s.lists found;
           };
       idle = idle;
       clock = clock;

@@ -1,5 +1,5 @@
 -- The lines of the limits hang only on what is told of the resources that exist.
-use Rattle.std.proofs.Common.{◌≡◌, ℕ, zero, suc, ◌-◌, ◌*◌, ◌<◌, ◌≤◌, true, false, cond, ltb, ◌++◌, Some, None, unwrap_or, refl, ap, ◌∙◌, arith}
+use Rattle.std.proofs.Common.{◌≡◌, ℕ, zero, suc, ◌-◌, ◌*◌, ◌<◌, ◌≤◌, true, false, cond, ltb, ◌++◌, Some, None, refl, ap, ◌∙◌, arith}
 use mathlib.Core.Path.{fun_ext}
 use Rattle.std.proofs.lemmas.Bool.{ltb-true, ltb-false}
 use Rattle.bank.specs.Questions.{Told}
@@ -7,7 +7,7 @@ use Rattle.bank.specs.declared.request.Mode.{Mode}
 use Rattle.bank.specs.declared.request.Mode.TheVariants.{Write, Read}
 use Rattle.limits.specs.Lines.{limit_line, line_of, lines_to, limits_text}
 use Rattle.pair.specs.Pairs.{part, pair_told}
-use Rattle.plan.specs.Contents.{Contents, longest_of}
+use Rattle.plan.specs.Contents.{Contents, longest_at}
 
 -- the same is told of a resource, as far as its line tells
 pub record SameAt (s t : Told) (r : ℕ) : Type 0 where
@@ -16,9 +16,9 @@ pub record SameAt (s t : Told) (r : ℕ) : Type 0 where
 
 same_line : (s t : Told) (c : Contents) (r : ℕ) → SameAt s t r → line_of s c r ≡ line_of t c r
 same_line s t c r e =
-    ap (λ w. limit_line r (w * unwrap_or (longest_of c r) 0) (cond (s.reads r) (Some (s.limit r Read * unwrap_or (longest_of c r) 0)) None)) (e.limit Write)
-    ∙ (ap (λ b. limit_line r (t.limit r Write * unwrap_or (longest_of c r) 0) (cond b (Some (s.limit r Read * unwrap_or (longest_of c r) 0)) None)) e.reads
-    ∙ ap (λ n. limit_line r (t.limit r Write * unwrap_or (longest_of c r) 0) (cond (t.reads r) (Some (n * unwrap_or (longest_of c r) 0)) None)) (e.limit Read))
+    ap (λ w. limit_line r (w * longest_at c r) (cond (s.reads r) (Some (s.limit r Read * longest_at c r)) None)) (e.limit Write)
+    ∙ (ap (λ b. limit_line r (t.limit r Write * longest_at c r) (cond b (Some (s.limit r Read * longest_at c r)) None)) e.reads
+    ∙ ap (λ n. limit_line r (t.limit r Write * longest_at c r) (cond (t.reads r) (Some (n * longest_at c r)) None)) (e.limit Read))
 
 same_lines : (s t : Told) (c : Contents) (n : ℕ) → ((r : ℕ) → r < n → SameAt s t r) → lines_to s c n ≡ lines_to t c n
 same_lines s t c zero e = refl

@@ -1,15 +1,9 @@
 -- The wait limits of each resource, and the lines that tell them.
 use Rattle.std.specs.Prelude.{ℕ, zero, suc, cond, List, [], ◌∷◌, ◌++◌, Some, None, codes, decimal, Option}
-use Rattle.std.specs.Option.{unwrap_or}
-use Rattle.bank.specs.Limits.{ticks_of_turns}
 use Rattle.bank.specs.Questions.{Told}
-use Rattle.bank.specs.declared.request.Mode.{Mode}
 use Rattle.bank.specs.declared.request.Mode.TheVariants.{Write, Read}
-use Rattle.plan.specs.Contents.{Contents, longest_of}
-
--- a wait limit is the turn limit times the longest declared length of the resource
-abbrev pub wait_limit : Told → Contents → ℕ → Mode → ℕ
-wait_limit t c r m = ticks_of_turns (t.limit r m) (unwrap_or (longest_of c r) 0)
+use Rattle.plan.specs.Contents.{Contents}
+use Rattle.rules.specs.Limits.{wait_limit}
 
 -- the wait limit for R, where R is known
 abbrev pub read_limit : Told → Contents → ℕ → Option ℕ

@@ -2,7 +2,8 @@ ghost use Rattle.std.specs.Prelude.{◌≡◌, ◌+◌, ◌<◌, ◌≤◌, ◌+
 ghost use Rattle.bank.specs.Questions.{knows};
 ghost use Rattle.plan.specs.Of.{plan_contents};
 ghost use Rattle.text.specs.Memory.{Writes};
-ghost use Rattle.limits.specs.Lines.{wait_limit, line_of, limits_text};
+ghost use Rattle.rules.specs.Limits.{wait_limit};
+ghost use Rattle.limits.specs.Lines.{line_of, limits_text};
 
 use crate::line::push_line;
 use bank::limit::ticks_of_turns;
@@ -14,12 +15,14 @@ use text::memory::write_bytes;
 use text::refusal::Refusal;
 
 // The wait limit of a mode, if the resource knows the mode.
+#[tactic(auto, using(crate::proofs::Longest::longest_or_zero))]
 fn wait_limit<B: Bank>(plan: &Plan, bank: &B, resource: u32, mode: Mode) -> Option<u64>
     requires { resource < (B.Bank.told bank.now).resources }
     ensures few { IfSome result (λ n. n < 2 ^ 64) }
     ensures value { result ≡ cond (knows (B.Bank.told bank.now) resource mode) (Some (wait_limit (B.Bank.told bank.now) (plan_contents plan.now) resource mode)) None }
 {
     let turns = bank.turn_limit(resource, mode).ok()?;
+    // a bank may have a resource that the plan has not: no length is declared for it
     let longest = plan.longest(resource as usize).unwrap_or(0);
     Some(ticks_of_turns(turns, longest))
 }

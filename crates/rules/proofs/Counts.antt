@@ -1,7 +1,7 @@
 -- Counting and searching the numbers below a bound. Assumes nothing.
 use Rattle.std.proofs.Common.{◌≡◌, ℕ, zero, suc, ◌+◌, ◌<◌, ◌≤◌, Bool, true, false, cond, ltb, ◌⊎◌, List, [], ◌∷◌, length, get_or, is_some, Some, None, count_by, Option, sym, refl, ap, ◌∙◌, inl, inr, ⊎_elim, arith}
 use Rattle.std.proofs.lemmas.List.Sums.{sum_by-cons}
-use Rattle.std.proofs.lemmas.Bool.{and_parts, ltb-true, ltb-false, cases_eq, cases_order, cases_Bool, both_ways, false≢true}
+use Rattle.std.proofs.lemmas.Bool.{and_parts, and_from, ltb-true, ltb-false, cases_eq, cases_order, cases_Bool, both_ways, false≢true}
 use Rattle.rules.specs.Jobs.{count_below, least_below, lesser}
 use Rattle.rules.specs.Questions.{lowest_below, all_below}
 
@@ -88,6 +88,10 @@ all_below_lem test (suc n) e k lt =
     let parts = and_parts (all_below test n) (test n) e in
     ⊎_elim (λ (same : k ≡ n). rw same parts.1) (λ (ne : k ≡ n → ⊥). all_below_lem test n parts.0 k (omega arith)) (cases_eq k n)
 
+pub all_below_from : (test : ℕ → Bool) (n : ℕ) → ((k : ℕ) → k < n → test k ≡ true) → all_below test n ≡ true
+all_below_from test zero each = refl
+all_below_from test (suc n) each = and_from (all_below test n) (test n) (all_below_from test n (λ k lt. each k (omega arith))) (each n (omega arith))
+
 one_more : (P : ℕ → Type 0) (n : ℕ) → P n → ((k : ℕ) → k < n → P k) → (k : ℕ) → k < suc n → P k
 one_more P n here under k lt = ⊎_elim (λ (e : k ≡ n). rw e here) (λ (ne : k ≡ n → ⊥). under k (omega arith)) (cases_eq k n)
 
@@ -129,6 +133,10 @@ module _ (test : ℕ → Bool) (value : ℕ → ℕ) where
   -- the least found passes, and no other that passes has a lower value
   pub least_some : (n b : ℕ) → least_below test value n ≡ Some b → (test b ≡ true) × (b < n) × ((k : ℕ) → k < n → test k ≡ true → value b ≤ value k)
   least_some n b e = let s : Says n (Some b) = rw e at (says n) in (s.0, s.1, s.2)
+
+  -- and no lower one has an equal value
+  pub least_first : (n b : ℕ) → least_below test value n ≡ Some b → (k : ℕ) → k < b → test k ≡ true → value b < value k
+  least_first n b e = let s : Says n (Some b) = rw e at (says n) in s.3
 
   -- where nothing is found, nothing passes
   pub least_none : (n : ℕ) → least_below test value n ≡ None → (k : ℕ) → k < n → test k ≡ false
@@ -175,6 +183,9 @@ module _ (test : ℕ → Bool) where
 
   pub lowest_none : (n : ℕ) → lowest_below test n ≡ None → (k : ℕ) → k < n → test k ≡ false
   lowest_none n e = rw e at (finds n)
+
+  pub lowest_some : (n b : ℕ) → lowest_below test n ≡ Some b → (test b ≡ true) × (b < n) × ((k : ℕ) → k < b → test k ≡ false)
+  lowest_some n b e = rw e at (finds n)
 
   pub lowest_is : (n b : ℕ) → b < n → test b ≡ true → ((k : ℕ) → k < b → test k ≡ false) → lowest_below test n ≡ Some b
   lowest_is n b lt e low = go (lowest_below test n) refl (finds n)

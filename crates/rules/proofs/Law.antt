@@ -1,29 +1,30 @@
 -- The law over every run: what is kept after each call gives the promises.
-use Rattle.std.proofs.Common.{◌≡◌, ℕ, ◌<◌, ◌≤◌, Bool, true, false, eqb, List, [], ◌∷◌, length, is_some, Some, None, Ok, Err, Option, unwrap_or, sym, refl, ap, ◌∙◌, subst, ⊎_elim, arith}
+use Rattle.std.proofs.Common.{◌≡◌, ℕ, ◌<◌, ◌≤◌, Bool, true, false, [], ◌∷◌, is_some, Some, None, Ok, Err, Option, unwrap_or, sym, refl, ap, ◌∙◌, subst, ⊎_elim, arith}
 use mathlib.Core.Path.{fun_ext}
-use Rattle.std.proofs.lemmas.Bool.{and_parts, eqb-true, false≢true, both_ways}
+use Rattle.std.proofs.lemmas.Bool.{and_parts, false≢true, both_ways}
 use Rattle.std.specs.List.{AllByRecursion}
 use Rattle.bank.specs.Lists.{request_of}
 use Rattle.bank.specs.Meaning.{Lists}
-use Rattle.bank.specs.declared.request.Request.{Request}
-use Rattle.plan.specs.Contents.{length_at, processors, resource_count}
+use Rattle.plan.specs.Contents.{length_at}
 use Rattle.rules.specs.Answers.{Event, made, released, asked, gave, finished, ticked, Answered}
-use Rattle.rules.specs.Histories.{History, lists, releases, job, wanted, issued, used, holding, state_of, jobs_after, after}
+use Rattle.rules.specs.Histories.{History, lists, releases, job, wanted, issued, used, holding, pending, state_of, jobs_after, after}
+use Rattle.rules.specs.Holders.{NamesLate, IsNearestEnd, nearest_end}
 use Rattle.rules.specs.Jobs.{Setup, Snapshot, runs}
 use Rattle.rules.specs.Moves.{Does}
 use Rattle.rules.specs.Promises.{Kept, InMode, AtMost, WithinLength, AnsweredAfter, Lawful}
-use Rattle.rules.specs.Questions.{fits_at, all_below, equal_bool, slots_in, reads_in}
-use Rattle.rules.specs.Runs.{Fitting, SetUp, Begins, SoundLists, moment, Runs, starts, goes, LawfulRun, Follows, Starts}
-use Rattle.rules.specs.States.{is_ready}
+use Rattle.rules.specs.Runs.{SetUp, Begins, SoundLists, moment, Runs, starts, goes, LawfulRun, Follows, Starts}
+use Rattle.rules.specs.Questions.{late_task}
+use Rattle.rules.specs.States.{is_ready, is_pending}
 use Rattle.rules.specs.declared.task.Wanted.{Wanted}
-use Rattle.rules.proofs.Counts.{all_below_lem}
 use Rattle.rules.proofs.Ends.{held_back_lem}
 use Rattle.rules.proofs.Gives.{entries}
+use Rattle.rules.proofs.Holders.{names_late, is_nearest, pending_words}
 use Rattle.rules.proofs.Lift.{Setting, InvOf, SoundOf, Stepped, released_stepped}
 use Rattle.rules.proofs.LiftAsk.{asked_stepped}
 use Rattle.rules.proofs.LiftFinish.{finished_stepped}
 use Rattle.rules.proofs.LiftGive.{gave_stepped, ticked_stepped}
 use Rattle.rules.proofs.Places.{first_ready_runs}
+use Rattle.rules.proofs.Promised.{late_named, next_lem, issued_first, few_issued, few_listed, numbers_apart}
 use Rattle.rules.proofs.Steps.{some_none, has_job}
 use Rattle.rules.proofs.Takes.{bank_takes_lem}
 use Rattle.rules.proofs.Ticks.{held_or_waits}
@@ -92,43 +93,30 @@ module _ (a : Setup) (set : Setting a) (h : History) (i : InvOf a h) where
     readers_apart = λ r lr. (i.sound r lr).apart;
     blocked_is_waited = λ t. (i.tasks t).blocked;
     waits_bounded = λ t e. (i.tasks t).bounded e;
+    issued_first = issued_first a set h i;
     held_back = λ t e. let s = held_back_lem t (words_of a h t) (lists h) e in i.firsts t refl s.1 ∙ s.2;
+    few_issued = few_issued a set h i;
+    few_listed = few_listed a set h i;
+    numbers_apart = numbers_apart a set h i;
   }
 
 -- what a controller is made from
 module _ (a : Setup) (ls : Lists) (u : SetUp a ls) where
-  fit_parts : Fitting a ls → (a.told.resources ≡ resource_count a.plan) × (a.told.seats ≡ processors a.plan) × (all_below (fits_at a.plan a.told ls) (resource_count a.plan) ≡ true)
-  fit_parts f =
-      let x = and_parts (eqb a.told.resources (resource_count a.plan)) _ f.fit in
-      let y = and_parts (eqb a.told.seats (processors a.plan)) _ x.1 in
-      (eqb-true a.told.resources (resource_count a.plan) x.0, eqb-true a.told.seats (processors a.plan) y.0, y.1)
-
   pub setting : Setting a
   setting = record {
     few = u.few;
     clusters = u.clusters;
     known = ⊎_elim (λ f. omega (arith, f.tasks)) (λ n. omega (arith, n.tasks)) u.fitting;
-    there = ⊎_elim (λ f. omega (arith, f.resources, (fit_parts f).0)) (λ n. omega (arith, n.resources)) u.fitting;
-    resources = λ l. ⊎_elim (λ f. (fit_parts f).0 ∙ sym f.resources) (λ n. absurd (none n.tasks l)) u.fitting;
-    seats = λ l. ⊎_elim (λ f. (fit_parts f).1) (λ n. absurd (none n.tasks l)) u.fitting;
+    there = ⊎_elim (λ f. omega (arith, f.resources, f.fit.resources)) (λ n. omega (arith, n.resources)) u.fitting;
+    resources = λ l. ⊎_elim (λ f. f.fit.resources ∙ sym f.resources) (λ n. absurd (none n.tasks l)) u.fitting;
+    seats = λ l. ⊎_elim (λ f. f.fit.seats) (λ n. absurd (none n.tasks l)) u.fitting;
   }
     where
       none : {m : ℕ} → m ≡ 0 → 0 < m → ⊥
       none e l = omega arith
 
-  empty_list : (xs : List Request) → length xs ≡ 0 → xs ≡ []
-  empty_list [] e = refl
-  empty_list (x ∷ xs) e = absurd (omega arith)
-
   pub nobody_active : (r : ℕ) → r < a.resources → ls r ≡ []
-  nobody_active r lr = ⊎_elim
-      (λ f.
-      let b = all_below_lem (fits_at a.plan a.told ls) (resource_count a.plan) (fit_parts f).2 r (omega (arith, f.resources, lr)) in
-      let x = and_parts (eqb (a.told.slots r) (slots_in a.plan r)) _ b in
-      let y = and_parts (equal_bool (a.told.reads r) (reads_in a.plan r)) _ x.1 in
-      empty_list (ls r) (eqb-true (length (ls r)) 0 y.1))
-      (λ n. absurd (omega (arith, n.resources, lr)))
-      u.fitting
+  nobody_active r lr = ⊎_elim (λ f. f.fit.nobody r (omega (arith, f.resources, lr))) (λ n. absurd (omega (arith, n.resources, lr))) u.fitting
 
 -- what is known at the end of a run
 pub record End (a : Setup) (s : Snapshot) (h : History) : Type 0 where
@@ -179,7 +167,7 @@ module _ (a : Setup) (s : Snapshot) (b : Begins a s) (sound : SoundLists a s) wh
     setting = set₀;
     same = same_snapshot s (after a h₀) b.idle refl b.clock b.releases;
     inv = inv₀;
-    lawful = (record { answered = (refl, empty); bank_takes = tt; stays_first = λ t e. absurd (false≢true e); kept = kept a set₀ h₀ inv₀ }, tt);
+    lawful = (record { answered = (refl, empty); bank_takes = tt; late_named = tt; next_issued = tt; stays_first = λ t e. absurd (false≢true e); kept = kept a set₀ h₀ inv₀ }, tt);
   }
 
 answered_after : (a : Setup) (e : Event) (h : History) (new : Lists) → Answered a (after a h) e new → AnsweredAfter a e h new
@@ -201,7 +189,7 @@ run_end {a} (goes {s} {t} {h} {e} run sound does) =
       setting = before.setting;
       same = same_snapshot t (after a (moment e t ∷ h)) (λ q. d.tasks q ∙ sym (next.agrees q)) refl d.clock d.releases;
       inv = next.inv;
-      lawful = (record { answered = answered_after a e h t.lists d.answered; bank_takes = bank_takes_lem a before.setting h before.inv e t.lists d.answered; stays_first = next.stays; kept = kept a before.setting (moment e t ∷ h) next.inv }, before.lawful);
+      lawful = (record { answered = answered_after a e h t.lists d.answered; bank_takes = bank_takes_lem a before.setting h before.inv e t.lists d.answered; late_named = late_named a h before.inv t.lists e d.answered; next_issued = next_lem a h before.inv t.lists e d.answered next.inv; stays_first = next.stays; kept = kept a before.setting (moment e t ∷ h) next.inv }, before.lawful);
     }
 
 -- a run keeps the law, and where it led to stands as its history says
@@ -217,3 +205,17 @@ follows a s t e sound does h run = lawful_run (goes run sound does)
 
 pub begins : (a : Setup) (s : Snapshot) → Begins a s → SoundLists a s → Starts a s
 begins a s b sound = lawful_run (starts b sound)
+
+-- In a run, by the words of its history.
+
+-- a task waits or is held back
+pub pending_lem : {a : Setup} {s : Snapshot} {h : History} → Runs a s h → (t : ℕ) → is_pending (s.tasks t).state ≡ pending t h
+pending_lem {a} {s} {h} run t = let end = run_end run in ap (λ (z : Snapshot). is_pending (z.tasks t).state) end.same ∙ pending_words a (releases h) h t (end.inv.tasks t)
+
+-- the holder nearest its end
+pub nearest_lem : {a : Setup} {s : Snapshot} {h : History} → Runs a s h → IsNearestEnd a (after a h) (nearest_end a s)
+nearest_lem {a} {s} {h} run = let end = run_end run in subst (λ (z : Snapshot). IsNearestEnd a (after a h) (nearest_end a z)) (sym end.same) (is_nearest a h end.inv)
+
+-- the lowest late task
+pub late_lem : {a : Setup} {s : Snapshot} {h : History} → Runs a s h → NamesLate a (after a h) (late_task a s)
+late_lem {a} {s} {h} run = let end = run_end run in subst (λ (z : Snapshot). NamesLate a (after a h) (late_task a z)) (sym end.same) (names_late a h end.inv)

@@ -13,4 +13,7 @@ pub mod LiftAsk
 pub mod LiftGive
 pub mod LiftFinish
 pub mod Takes
+pub mod Fits
+pub mod Holders
+pub mod Promised
 pub mod Law

@@ -277,3 +277,13 @@ module _ (a : Setup) (j : Jobs) (n : ℕ) (k : Numbered a j n) (inside : (t : �
         count_more (λ q. listed xs q) sel t a.tasks (chosen_known t e) (lt-leb 1 (count (λ x. eqb x.party t) xs) (omega arith)) e
             (λ q l f. has q (leb-true 1 (count (λ x. eqb x.party q) xs) f)),
       )
+
+  -- and so is a list of them, each listed once
+  pub listed_few : (xs : List Request) → ((q : ℕ) → count (λ x. eqb x.party q) xs ≤ 1) → ((q : ℕ) → 1 ≤ count (λ x. eqb x.party q) xs → sel q ≡ true) → length xs ≤ sum a.plan.clusters
+  listed_few xs once has =
+      omega (
+        arith,
+        seats,
+        listed_length a.tasks xs once (λ q l. chosen_known q (has q l)),
+        count_mono (λ q. listed xs q) sel a.tasks (λ q l f. has q (leb-true 1 (count (λ x. eqb x.party q) xs) f)),
+      )

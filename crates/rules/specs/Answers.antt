@@ -53,7 +53,8 @@ module _ (a : Setup) (s : Snapshot) where
   next_questions None = []
   next_questions (Some u) = issue_questions u (resource_of u) (wanted_of (s.tasks u).state).mode
 
-  -- the answer to each call, and the bank's lists after it: changed by one enter, by one leave, or not at all
+  -- the answer to each call, and the bank's lists after it: changed by one enter, by one leave, or
+  -- not at all
   abbrev pub Answered : Event → Lists → Type 0
   Answered made new = ⊥
   Answered (released t (Ok n)) new = (first_no (release_questions a s t) ≡ None) × (n ≡ s.releases) × (new ≡ s.lists)

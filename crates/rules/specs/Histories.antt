@@ -1,6 +1,6 @@
--- A history: the calls of a run with their answers and the bank's lists after each, and what can be read off it.
--- Nothing here knows the controller's records.
-use Rattle.std.specs.Prelude.{ℕ, Bool, true, false, cond, ◌&&◌, ◌||◌, List, [], ◌∷◌, Some, None, Ok, Err, Option, ◌==◌}
+-- A history: the calls of a run with their answers and the bank's lists after each, and what can be
+-- read off it. Nothing here knows the controller's records.
+use Rattle.std.specs.Prelude.{ℕ, Bool, true, false, cond, not, ◌&&◌, ◌||◌, List, [], ◌∷◌, is_some, Some, None, Ok, Err, Option, ◌==◌}
 use Rattle.std.specs.Option.{unwrap_or}
 use Rattle.bank.specs.Lists.{request_of}
 use Rattle.bank.specs.Meaning.{Lists}
@@ -124,15 +124,22 @@ abbrev pub entry_of : ℕ → Option Wanted → Lists → Option Request
 entry_of t None ls = None
 entry_of t (Some w) ls = request_of t (ls w.resource)
 
--- it holds or waits as the bank lists it
+-- an issued request holds where the bank lists it as a holder, and else it waits
 abbrev pub holding : ℕ → History → Bool
 holding t h = issued t h && is_held (entry_of t (wanted t h) (lists h))
 
 abbrev pub waiting : ℕ → History → Bool
 waiting t h = issued t h && is_queued (entry_of t (wanted t h) (lists h))
 
--- a task without an unfinished job is idle; a job with no request to give back is going, one whose request is not issued is held back,
--- and else it holds or waits
+-- a request that is not issued yet is held back
+abbrev pub held_back : ℕ → History → Bool
+held_back t h = is_some (wanted t h) && not (issued t h)
+
+-- t has a request that does not hold yet
+abbrev pub pending : ℕ → History → Bool
+pending t h = waiting t h || held_back t h
+
+-- A task with no job is idle, and one whose job has no request is going; else its request decides.
 abbrev pub state_of : Option ℕ → Option Wanted → Bool → Bool → State
 state_of None w issued holds = Idle
 state_of (Some n) None issued holds = Going
@@ -147,25 +154,44 @@ state t h = state_of (job t h) (wanted t h) (issued t h) (holding t h)
 abbrev pub jobs_after : History → Jobs
 jobs_after h = record { state = λ t. state t h; number = λ t. unwrap_or (job t h) 0 }
 
--- Accepted ticks: those that found the request of t, if it has one, holding or waiting, its unfinished job's requests waiting,
--- and its unfinished job blocked.
+-- The ticks, of those accepted, that found the request of t holding, found it waiting, found a
+-- request of its unfinished job waiting, and found that job blocked.
 
 abbrev pub used : ℕ → History → ℕ
 used t [] = 0
-used t (m ∷ h) = cond (issues t m.event || gives t m.event) 0 (one_more_if (is_tick m.event && holding t h) (used t h))
+used t (m ∷ h) =
+    cond (issues t m.event || gives t m.event) 0
+    (one_more_if (is_tick m.event && holding t h) (used t h))
 
 abbrev pub waited : ℕ → History → ℕ
 waited t [] = 0
-waited t (m ∷ h) = cond (issues t m.event || gives t m.event) 0 (one_more_if (is_tick m.event && waiting t h) (waited t h))
+waited t (m ∷ h) =
+    cond (issues t m.event || gives t m.event) 0
+    (one_more_if (is_tick m.event && waiting t h) (waited t h))
 
 abbrev pub job_waited : ℕ → History → ℕ
 job_waited t [] = 0
-job_waited t (m ∷ h) = cond (begins t m.event || ends t m.event) 0 (one_more_if (is_tick m.event && waiting t h) (job_waited t h))
+job_waited t (m ∷ h) =
+    cond (begins t m.event || ends t m.event) 0
+    (one_more_if (is_tick m.event && waiting t h) (job_waited t h))
 
 abbrev pub blocked_ticks_of : Setup → ℕ → History → ℕ
 blocked_ticks_of a t [] = 0
-blocked_ticks_of a t (m ∷ h) = cond (begins t m.event || ends t m.event) 0 (one_more_if (is_tick m.event && blocked a (jobs_after h) t) (blocked_ticks_of a t h))
+blocked_ticks_of a t (m ∷ h) =
+    cond (begins t m.event || ends t m.event) 0
+    (one_more_if (is_tick m.event && blocked a (jobs_after h) t) (blocked_ticks_of a t h))
 
 -- how everything stands after a history
 abbrev pub after : Setup → History → Snapshot
-after a h = record { tasks = λ t. record { state = state t h; release = unwrap_or (job t h) 0; used = used t h; blocked = blocked_ticks_of a t h }; lists = lists h; clock = clock h; releases = releases h }
+after a h = record {
+  tasks = λ t.
+      record {
+        state = state t h;
+        release = unwrap_or (job t h) 0;
+        used = used t h;
+        blocked = blocked_ticks_of a t h;
+      };
+  lists = lists h;
+  clock = clock h;
+  releases = releases h;
+}

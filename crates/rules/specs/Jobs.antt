@@ -7,8 +7,8 @@ use Rattle.rules.specs.States.{is_idle, is_ready, is_held_back, idle_task}
 use Rattle.rules.specs.declared.task.State.{State}
 use Rattle.rules.specs.declared.task.Task.{Task}
 
--- what a controller is made from, and never changes: a plan, what its bank tells, and how many tasks and resources it has.
--- Over a bank that fits these are the plan's, and else it has none.
+-- what a controller is made from, and never changes: a plan, what its bank tells, and how many
+-- tasks and resources it has. Over a bank that fits these are the plan's, and else it has none.
 pub record Setup : Type 0 where
   pub plan : Contents
   pub told : Told
@@ -22,7 +22,8 @@ cluster_of a t = slice_index a.plan.tasks t
 abbrev pub processors_for : Setup → ℕ → ℕ
 processors_for a t = slice_index a.plan.clusters (cluster_of a t)
 
--- how a controller stands: the record of each task, the bank's lists, the clock and the accepted releases
+-- how a controller stands: the record of each task, the bank's lists, the clock and the accepted
+-- releases
 pub record Snapshot : Type 0 where
   pub tasks : ℕ → Task
   pub lists : Lists
@@ -82,6 +83,7 @@ abbrev pub if_first : Setup → Jobs → Option ℕ → Option ℕ
 if_first a j None = None
 if_first a j (Some u) = cond (first a j u) (Some u) None
 
--- the task whose request is issued when the job of t ends: the earliest held-back job of the cluster, if it is then among the first
+-- the task whose request is issued when the job of t ends: the earliest held-back job of the
+-- cluster, if it is then among the first
 abbrev pub next_issued : Setup → Snapshot → ℕ → Option ℕ
 next_issued a s t = if_first a (jobs_in (ended s t)) (least_below (λ u. is_held_back ((ended s t).tasks u).state && cluster_of a u == cluster_of a t) (λ u. ((ended s t).tasks u).release) a.tasks)

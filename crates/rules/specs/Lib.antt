@@ -1,6 +1,9 @@
 pub mod Answers
+pub mod Fits
 pub mod Histories
+pub mod Holders
 pub mod Jobs
+pub mod Limits
 pub mod Moves
 pub mod Promises
 pub mod Questions

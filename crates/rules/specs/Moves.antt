@@ -36,7 +36,8 @@ abbrev pub issued_task : Option Issued → ℕ → Task → Task
 issued_task None t k = k
 issued_task (Some i) t k = cond (i.task == t) (in_state (issued_state i.holds (wanted_of k.state)) k) k
 
--- one tick more of use for a holder; one tick more for a job that waits, which is a job that is blocked
+-- one tick more of use for a holder; one tick more for a job that waits, which is a job that is
+-- blocked
 abbrev pub ticked_state : State → Task → Task
 ticked_state Idle k = k
 ticked_state Going k = k

@@ -56,7 +56,6 @@ tick_questions a s = ask 10 (not (is_some (late_task a s))) ∷ (ask 11 (nat_lt 
 abbrev pub limit_questions : Setup → ℕ → Mode → List Question
 limit_questions a r m = ask 2 (nat_lt r a.resources) ∷ (ask 3 (knows a.told r m) ∷ [])
 
--- the bank has the plan's resources with equal k and modes, m seats and nobody active
 abbrev pub equal_bool : Bool → Bool → Bool
 equal_bool true b = b
 equal_bool false b = not b
@@ -75,6 +74,7 @@ abbrev pub all_below : (ℕ → Bool) → ℕ → Bool
 all_below test zero = true
 all_below test (suc n) = all_below test n && test n
 
+-- whether a bank fits a plan, resource by resource
 abbrev pub fits : Contents → Told → Lists → Bool
 fits c t lists = t.resources == resource_count c && (t.seats == processors c && all_below (fits_at c t lists) (resource_count c))
 

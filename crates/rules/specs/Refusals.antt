@@ -50,7 +50,8 @@ from_bank ClockEnds = false
 from_bank NoFit = false
 from_bank (Bank why) = true
 
--- the first question answered no decides: one of the controller's own, or, where those are all answered yes, one of the bank's
+-- the first question answered no decides: one of the controller's own, or, where those are all
+-- answered yes, one of the bank's
 pub record Refused (own bank : List Question) (why : Refusal) : Type 0 where
   pub decided : first_no (cond (from_bank why) bank own) ≡ Some (number why)
   pub own_first : from_bank why ≡ true → first_no own ≡ None

@@ -15,7 +15,8 @@ use Rattle.plan.specs.Contents.{Contents}
 use Rattle.rules.specs.Jobs.{least_below, if_first}
 use Rattle.rules.specs.States.{is_held_back, is_holding}
 use Rattle.rules.specs.declared.task.Task.{Task}
-use Rattle.table.specs.Rows.{tasks_in, job_at, earliest_of, next_of, setup_with, jobs_of, left_of, holder_at, task_and_left, nearest_of}
+use Rattle.rules.specs.Holders.{task_and_left}
+use Rattle.table.specs.Rows.{tasks_in, job_at, earliest_of, next_of, setup_with, jobs_of, left_of, holder_at, nearest_of}
 use Rattle.table.specs.declared.selection.Selection.TheVariants.{HeldBack}
 use Rattle.table.proofs.Orders.{nothing, before_by, job_order, holder_order}
 use Rattle.table.proofs.Ranks.{tasks_past}

@@ -5,6 +5,7 @@ use Rattle.bank.specs.Questions.{Told}
 use Rattle.order.specs.declared.elements.Holder.{Holder}
 use Rattle.order.specs.declared.elements.Job.{Job}
 use Rattle.plan.specs.Contents.{Contents, length_at}
+use Rattle.rules.specs.Holders.{task_and_left}
 use Rattle.rules.specs.Jobs.{Jobs, Setup, cluster_of, count_below, least_below, if_first}
 use Rattle.rules.specs.States.{is_idle, is_ready, is_held_back, is_holding, wanted_of, idle_task}
 use Rattle.rules.specs.declared.task.State.{State}
@@ -75,9 +76,5 @@ abbrev pub holder_at : Contents → ℕ → List Task → ℕ → Option Holder
 holder_at p n rows t = cond (is_holding (tasks_in n rows t).state) (Some (record { left = left_of p n rows t; task = t })) None
 
 -- the holder with the fewest ticks left, of equal ones the lowest: its task and its ticks left
-abbrev pub task_and_left : (ℕ → ℕ) → Option ℕ → Option (ℕ × ℕ)
-task_and_left left None = None
-task_and_left left (Some t) = Some (t, left t)
-
 abbrev pub nearest_of : Contents → ℕ → List Task → Option (ℕ × ℕ)
 nearest_of p n rows = task_and_left (left_of p n rows) (least_below (λ t. is_holding (tasks_in n rows t).state) (left_of p n rows) n)

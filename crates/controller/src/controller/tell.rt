@@ -1,6 +1,7 @@
 ghost use Rattle.std.specs.Prelude.{◌≡◌};
-ghost use Rattle.controller.specs.Limits.{TellsLimit, TellsTurns, nearest_end};
+ghost use Rattle.controller.specs.Limits.{TellsLimit, TellsTurns};
 ghost use Rattle.controller.specs.Of.{setup_of, snapshot_of};
+ghost use Rattle.rules.specs.Holders.{nearest_end};
 ghost use Rattle.rules.specs.States.{is_pending};
 
 use crate::controller::Controller;
