@@ -13,7 +13,8 @@ use controller::controller::Controller;
 use rules::answer::Asked;
 use rules::refusal::Refusal;
 
-/// The same call as the controller's `ask`, with a claim on what was asked for.
+/// The same call as the controller's `ask`, with a claim on what was asked for. Refused as `ask`
+/// is; then there is no claim.
 pub fn ask<B: Bank>(
     controller: &mut Controller<B>,
     task: u32,
@@ -31,7 +32,8 @@ pub fn ask<B: Bank>(
     Ok((answer, Claim::of(task)))
 }
 
-// Spends a claim, or hands it back: what `give` does, to which that adds the law of runs, by a lemma.
+// Spends a claim, or hands it back: what `give` does, to which that adds the law of runs, by a
+// lemma.
 fn give_back<B: Bank>(
     controller: &mut Controller<B>,
     claim: Claim,
@@ -50,8 +52,9 @@ fn give_back<B: Bank>(
     Ok(controller.give(task))
 }
 
-/// The same call as the controller's `give` of the claim's task: answers the ticks for which it held, and spends the claim.
-/// Where the task waits or is held back, nothing changes, and the claim comes back with the refusal, whose number is 9.
+/// The same call as the controller's `give` of the claim's task, and spends the claim: answers the
+/// ticks for which the task held, or `give`'s refusal. Where the task waits or is held back nothing
+/// changes, and the claim comes back with the refusal, whose number is 9.
 pub fn give<B: Bank>(
     controller: &mut Controller<B>,
     claim: Claim,

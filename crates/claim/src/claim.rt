@@ -1,7 +1,8 @@
 ghost use Rattle.std.specs.Prelude.{◌≡◌, ◌≤◌};
 
-/// A claim on what a task asked for. It can only be given back.
-// `Drop` asks for what no claim has, since the tasks of a plan are below 64: so a claim that is let go is refused by the prover.
+/// A claim on what a task asked for: the number of that task. It can only be given back.
+// `Drop` asks for what no claim has, since the tasks of a plan are below 64. So it is the prover
+// that refuses code that lets a claim go.
 #[derive(Debug, PartialEq, Eq)]
 pub struct Claim {
     task: u32,

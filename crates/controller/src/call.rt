@@ -5,7 +5,7 @@ ghost use Rattle.rules.specs.States.{is_ready};
 use rules::refusal::Refusal;
 use rules::task::State;
 
-/// The calls that are made for one task.
+/// The calls that are made for one task; a tick is for all.
 #[derive(Clone, Copy, Debug, PartialEq, Eq)]
 pub enum Call {
     Release,
@@ -14,7 +14,8 @@ pub enum Call {
     Finish,
 }
 
-// Whether the state of a task admits the call: one match on both, so that no state is left out at any call.
+// Whether the state of a task admits the call, asked for a task that exists. One match on both, so
+// that each call has an answer in each state.
 pub(crate) fn admits(state: State, call: Call, running: bool) -> Result<(), Refusal>
     requires { running ≡ true → is_ready state ≡ true }
     ensures { Checked (admit_questions call running state) result }

@@ -10,7 +10,8 @@ use rules::task::Task;
 use table::records::Records;
 use table::table::Table;
 
-/// A controller over a bank. Where the bank fits the plan it has the plan's tasks and resources, and else none.
+/// A controller over a bank. Where the bank fits the plan it has the plan's tasks and resources,
+/// and else none. It starts at clock 0, with no task released.
 #[derive(Debug, PartialEq, Eq, Drop)]
 pub struct Controller<B: Bank> {
     plan: Plan,
@@ -45,7 +46,8 @@ impl<B: Bank> Controller<B> {
     }
 }
 
-// Each call stands twice: `do_` and its name says what it does, and the call itself adds the law of runs, by a lemma.
+// Each call stands twice: `do_` and its name says what it does, and the call itself adds the law of
+// runs, by a lemma.
 pub mod ask;
 pub mod check;
 pub mod finish;

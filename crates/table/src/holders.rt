@@ -45,7 +45,8 @@ impl Table<'_> {
         row[first_of(&row)?].0
     }
 
-    /// The task of the holder that has the fewest ticks left, of equal ones the lowest, and its ticks left.
+    /// The task of the holder that has the fewest ticks left, of equal ones the lowest, and its
+    /// ticks left. Nothing where nobody holds.
     pub fn nearest_end(&self) -> Option<(u32, u32)>
         ensures { result ≡ nearest_of (plan_contents self.now.plan.now) self.now.tasks self.now.rows.now }
     {

@@ -52,14 +52,16 @@ impl Table<'_> {
                 < self.processors_for(task) as usize
     }
 
-    /// Whether the job of a task runs.
+    /// Whether the job of a task is ready and runs: fewer ready jobs of its cluster were released
+    /// before it than the cluster has processors.
     pub fn runs(&self, task: usize) -> bool
         ensures { (told : Told) (k : ℕ) → result ≡ runs (setup_with (plan_contents self.now.plan.now) told self.now.tasks k) (jobs_of self.now.tasks self.now.rows.now) task }
     {
         self.ranks(Selection::Ready, task)
     }
 
-    /// Whether the job of a task is among the first of its cluster, as many as the cluster has processors.
+    /// Whether the job of a task is among the first of its cluster: fewer unfinished jobs of the
+    /// cluster were released before it than the cluster has processors.
     pub fn is_first(&self, task: usize) -> bool
         ensures { (told : Told) (k : ℕ) → result ≡ first (setup_with (plan_contents self.now.plan.now) told self.now.tasks k) (jobs_of self.now.tasks self.now.rows.now) task }
     {

@@ -30,7 +30,8 @@ impl Table<'_> {
         self.is_first(task).then_some(task)
     }
 
-    /// The task of the earliest held-back job of a cluster, if that job is among the first.
+    /// The task of the earliest held-back job of a cluster, if that job is among the first. Nothing
+    /// where none is held back, or where there is no such cluster.
     #[tactic(auto, using(crate::proofs::Firsts::next_by_parts))]
     pub fn next_issued(&self, cluster: u8) -> Option<usize>
         ensures { (told : Told) (k : ℕ) → result ≡ next_of

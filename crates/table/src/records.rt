@@ -4,7 +4,8 @@ ghost use Rattle.table.specs.contracts.records.Records.{the_row};
 
 use rules::task::Task;
 
-/// The records of 64 tasks, in fixed memory. One of them is lent at a time, so that a call changes that one and no other.
+/// The records of 64 tasks, in fixed memory, each at the place of its task's number. One of them is
+/// lent at a time, so that what is done to it changes no other.
 #[derive(Debug, PartialEq, Eq, Drop)]
 pub struct Records<T> {
     pub rows: [T; 64],
@@ -22,7 +23,7 @@ impl<T> Records<T> {
 }
 
 impl Records<Task> {
-    /// Changes the record of one task; there is none from 64 on.
+    /// Changes the record of one task. There is none from 64 on, and nothing changes then.
     pub fn store(&mut self, t: usize, task: Task)
         ensures stored { t < 64 → self.new.rows ≡ slice_set self.old.rows t task }
         ensures kept { 64 ≤ t → self.new ≡ self.old }

@@ -3,7 +3,8 @@ ghost use Rattle.table.specs.Rows.{selects};
 
 use rules::task::State;
 
-/// Which of the jobs are looked at. An enum and no closure, since the definitions of specs say what each case selects.
+/// Which of the jobs are looked at. An enum and no closure, since the definitions of specs say what
+/// each case selects.
 #[derive(Clone, Copy, Debug, PartialEq, Eq)]
 pub enum Selection {
     Unfinished,

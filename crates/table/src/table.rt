@@ -5,7 +5,8 @@ ghost use Rattle.table.specs.Rows.{KeepsLengths, tasks_in};
 use plan::plan::Plan;
 use rules::task::Task;
 
-/// The records of the first `tasks` tasks of a plan; all others are idle.
+/// The records of the first `tasks` tasks of a plan; all others are idle. What a task has asked for
+/// has a declared length, and it has held for no more ticks than that.
 #[derive(Clone, Copy, Debug, PartialEq, Eq)]
 pub struct Table<'a> {
     pub plan: &'a Plan,

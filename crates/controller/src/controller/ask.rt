@@ -68,7 +68,9 @@ impl<B: Bank> Controller<B> {
         Ok(answer)
     }
 
-    /// The running job of a task asks for a resource.
+    /// The running job of a task asks for a resource. Its request is issued, and holds or waits,
+    /// if the job is among the first of its cluster; else it is held back until a finish brings
+    /// the job there. Refused with 1, 2, 3, 4, 7 or 8.
     pub fn ask(&mut self, task: u32, resource: u32, mode: Mode) -> Result<Asked, Refusal>
         ensures setup { setup_of B.Bank self.new ≡ setup_of B.Bank self.old }
         ensures does { Does (setup_of B.Bank self.old) (snapshot_of B.Bank self.old) (asked task resource mode result) (snapshot_of B.Bank self.new) }

@@ -69,7 +69,8 @@ impl<B: Bank> Controller<B> {
         })
     }
 
-    /// The running job of a task ends. Answers the ticks on which it was blocked, and the request that is issued thereby.
+    /// The running job of a task ends. Answers the ticks on which it was blocked, and the request
+    /// that was held back and is issued thereby, if there is one. Refused with 1, 7 or 8.
     pub fn finish(&mut self, task: u32) -> Result<Finished, Refusal>
         ensures setup { setup_of B.Bank self.new ≡ setup_of B.Bank self.old }
         ensures does { Does (setup_of B.Bank self.old) (snapshot_of B.Bank self.old) (finished task result) (snapshot_of B.Bank self.new) }

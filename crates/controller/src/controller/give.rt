@@ -63,7 +63,8 @@ impl<B: Bank> Controller<B> {
         Ok(job.used)
     }
 
-    /// The task gives back what it holds, and is answered the ticks for which it held.
+    /// The task gives back what it holds, and is answered the ticks for which it held. Each task
+    /// that the bank then lets hold has held for 0 ticks. Refused with 1 or 9.
     pub fn give(&mut self, task: u32) -> Result<u32, Refusal>
         ensures setup { setup_of B.Bank self.new ≡ setup_of B.Bank self.old }
         ensures does { Does (setup_of B.Bank self.old) (snapshot_of B.Bank self.old) (gave task result) (snapshot_of B.Bank self.new) }

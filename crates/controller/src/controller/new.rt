@@ -49,7 +49,8 @@ fn fits_all<B: Bank>(plan: &Plan, bank: &B) -> bool
 }
 
 impl<B: Bank> Controller<B> {
-    /// Whether the bank has the plan's resources, as many seats as the plan has processors, and nobody active.
+    /// Whether the bank has the plan's resources, each with the plan's k and modes, as many seats
+    /// as the plan has processors, and nobody active. Refused with 24 where it has not.
     pub fn fits(plan: &Plan, bank: &B) -> Result<(), Refusal>
         ensures { Checked (fit_questions (plan_contents plan.now) (B.Bank.told bank.now) (B.Bank.active bank.now)) result }
     {
@@ -96,7 +97,8 @@ impl<B: Bank> Controller<B> {
         }
     }
 
-    /// A controller at clock 0 with every task idle. Over a bank that does not fit it has no task and no resource.
+    /// A controller at clock 0 with every task idle. Over a bank that fits it has the plan's tasks
+    /// and resources. Over another it has none, so that each call for a task is refused with 1.
     pub fn new(plan: &Plan, bank: B) -> Controller<B>
         ensures begins { Begins (setup_of B.Bank result) (snapshot_of B.Bank result) }
         ensures starts { Starts (setup_of B.Bank result) (snapshot_of B.Bank result) }

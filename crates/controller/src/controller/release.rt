@@ -12,7 +12,6 @@ use rules::refusal::Refusal;
 use rules::task::{State, Task};
 
 impl<B: Bank> Controller<B> {
-    // Begins a job of a task: its release number.
     fn do_release(&mut self, task: u32) -> Result<u32, Refusal>
         ensures setup { setup_of B.Bank self.new ≡ setup_of B.Bank self.old }
         ensures does { Does (setup_of B.Bank self.old) (snapshot_of B.Bank self.old) (released task result) (snapshot_of B.Bank self.new) }
@@ -36,7 +35,8 @@ impl<B: Bank> Controller<B> {
         Ok(number)
     }
 
-    /// Begins a job of an idle task, and answers its release number.
+    /// Begins a job of an idle task, and answers its release number: how many releases were
+    /// accepted before. Refused with 1, 5 or 6.
     pub fn release(&mut self, task: u32) -> Result<u32, Refusal>
         ensures setup { setup_of B.Bank self.new ≡ setup_of B.Bank self.old }
         ensures does { Does (setup_of B.Bank self.old) (snapshot_of B.Bank self.old) (released task result) (snapshot_of B.Bank self.new) }

@@ -24,7 +24,8 @@ impl<B: Bank> Controller<B> {
             .map_err(|_| Refusal::NoMode)
     }
 
-    /// The most ticks for which a request in this mode waits at a resource.
+    /// The most ticks for which a request in this mode waits at a resource, once it is issued.
+    /// Refused with 2 or 3.
     pub fn wait_limit(&self, resource: u32, mode: Mode) -> Result<u64, Refusal>
         ensures { TellsLimit (setup_of B.Bank self.now) resource mode result }
     {
@@ -33,14 +34,16 @@ impl<B: Bank> Controller<B> {
         Ok(ticks_of_turns(turns, longest))
     }
 
-    /// The task of the holder that has the fewest ticks left, of equal ones the lowest, and its ticks left.
+    /// The task of the holder that has the fewest ticks left, of equal ones the lowest, and its
+    /// ticks left: how many accepted ticks it may still hold. Nothing where nobody holds.
     pub fn nearest_end(&self) -> Option<(u32, u32)>
         ensures { result ≡ nearest_end (setup_of B.Bank self.now) (snapshot_of B.Bank self.now) }
     {
         self.jobs().nearest_end()
     }
 
-    /// Whether a task waits or is held back.
+    /// Whether a task waits or is held back: it has asked, and can neither work on nor give. A
+    /// task that does not exist is not.
     pub fn is_pending(&self, task: u32) -> bool
         ensures { result ≡ is_pending ((snapshot_of B.Bank self.now).tasks task).state }
     {

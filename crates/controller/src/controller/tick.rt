@@ -74,7 +74,8 @@ impl<B: Bank> Controller<B> {
         Ok(self.clock)
     }
 
-    /// One tick of the clock, and answers the clock.
+    /// One tick, a millisecond, passes: answers the clock, in ticks since the controller was made.
+    /// Refused with 10, and the lowest task that has held for all of its length, or with 11.
     pub fn tick(&mut self) -> Result<u32, Refusal>
         ensures setup { setup_of B.Bank self.new ≡ setup_of B.Bank self.old }
         ensures does { Does (setup_of B.Bank self.old) (snapshot_of B.Bank self.old) (ticked result) (snapshot_of B.Bank self.new) }
