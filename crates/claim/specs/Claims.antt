@@ -1,10 +1,8 @@
 -- Claims: an ask and a give by a claim are the calls of the claim's task.
-use Rattle.std.specs.Prelude.{◌≡◌, ℕ, ◌<◌, true, false, Ok, Err, Result}
+use Rattle.std.specs.Prelude.{◌≡◌, ℕ, ◌<◌, Bool, true, false, Ok, Err, Result}
 use Rattle.rules.specs.Refusals.{number}
-use Rattle.rules.specs.States.{is_pending}
 use Rattle.rules.specs.declared.answer.Asked.{Asked}
 use Rattle.rules.specs.declared.refusal.Refusal.{Refusal}
-use Rattle.rules.specs.declared.task.State.{State}
 use Rattle.claim.specs.declared.claim.Claim.{Claim}
 
 -- the answer without the claim
@@ -22,7 +20,7 @@ abbrev pub gave_of : Result (Result ℕ Refusal) (Claim × Refusal) → Result �
 gave_of (Ok x) = x
 gave_of (Err back) = Err back.1
 
--- the same claim is handed back with 9 where the task waits or is held back, and only there
-abbrev pub HandedBack : Claim → State → Result (Result ℕ Refusal) (Claim × Refusal) → Type 0
-HandedBack claim st (Ok x) = is_pending st ≡ false
-HandedBack claim st (Err back) = (is_pending st ≡ true) × (back.0 ≡ claim) × (number back.1 ≡ 9)
+-- the same claim is handed back with 9 where its task is pending, and only there
+abbrev pub HandedBack : Claim → Bool → Result (Result ℕ Refusal) (Claim × Refusal) → Type 0
+HandedBack claim pending (Ok x) = pending ≡ false
+HandedBack claim pending (Err back) = (pending ≡ true) × (back.0 ≡ claim) × (number back.1 ≡ 9)

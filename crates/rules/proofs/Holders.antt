@@ -41,6 +41,30 @@ module _ (a : Setup) (s : Snapshot) (t n : ℕ) (has : HasLeft a s t n) where
 not_less : (m n : ℕ) → (n < m → ⊥) → m ≤ n
 not_less m n f = ⊎_elim (λ (l : n < m). absurd (f l)) (λ (g : m ≤ n). g) (cases_lt n m)
 
+-- the holder that is found is the nearest its end, where each holder is a task and has ticks left or none
+module _ (a : Setup) (s : Snapshot) (known : (t : ℕ) → is_holding (s.tasks t).state ≡ true → t < a.tasks) (left : (t : ℕ) → is_holding (s.tasks t).state ≡ true → HasLeft a s t (ticks_left a s t)) where
+  pub is_nearest : IsNearestEnd a s (nearest_end a s)
+  is_nearest = go (least_below test value a.tasks) refl
+    where
+      test : ℕ → Bool
+      test t = is_holding (s.tasks t).state
+
+      value : ℕ → ℕ
+      value t = ticks_left a s t
+
+      less_same : {m n : ℕ} → m < n → n ≡ m → ⊥
+      less_same l e = omega arith
+
+      go : (o : Option ℕ) → least_below test value a.tasks ≡ o → IsNearestEnd a s (task_and_left value o)
+      go None e = λ t. ⊎_elim (λ f. absurd (both_ways (test t) (least_none test value a.tasks e t (known t f)) f)) (λ f. f) (cases_Bool (test t))
+      go (Some t) e =
+          let found = least_some test value a.tasks t e in
+          record {
+            holder = left t found.0;
+            fewest = λ u m has. let holds = left_holds a s u m has in omega (arith, found.2 u (known u holds) holds, left_is a s u m has);
+            lowest = λ u has. not_less t u (λ lt. less_same (least_first test value a.tasks t e u lt (left_holds a s u (value t) has)) (left_is a s u (value t) has));
+          }
+
 late_holds : (a : Setup) (t u : ℕ) (st : State) → late_in a t u st ≡ true → is_holding st ≡ true
 late_holds a t u Idle e = absurd (false≢true e)
 late_holds a t u Going e = absurd (false≢true e)
@@ -88,33 +112,6 @@ module _ (a : Setup) (h : History) (i : InvOf a h) where
         where
           not_below : (u : ℕ) → late a (after a h) u ≡ true → ((k : ℕ) → k < t → late a (after a h) k ≡ false) → t ≤ u
           not_below u f low = not_less t u (λ lt. both_ways (late a (after a h) u) (low u lt) f)
-
-  -- the holder that is found is the nearest its end
-  pub is_nearest : IsNearestEnd a (after a h) (nearest_end a (after a h))
-  is_nearest = go (least_below test value a.tasks) refl
-    where
-      test : ℕ → Bool
-      test t = is_holding (state t h)
-
-      value : ℕ → ℕ
-      value t = ticks_left a (after a h) t
-
-      go : (o : Option ℕ) → least_below test value a.tasks ≡ o → IsNearestEnd a (after a h) (task_and_left value o)
-      go None e = λ t. ⊎_elim (λ f. absurd (both_ways (test t) (least_none test value a.tasks e t (holder_known t f)) f)) (λ f. f) (cases_Bool (test t))
-      go (Some t) e =
-          let found = least_some test value a.tasks t e in
-          record {
-            holder = holder_left t found.0;
-            fewest = λ u m has.
-                let holds = left_holds a (after a h) u m has in
-                omega (arith, found.2 u (holder_known u holds) holds, left_is a (after a h) u m has);
-            lowest = λ u has.
-                let same = left_is a (after a h) u (value t) has in
-                not_less t u (λ lt. less_same (least_first test value a.tasks t e u lt (left_holds a (after a h) u (value t) has)) same);
-          }
-        where
-          less_same : {m n : ℕ} → m < n → n ≡ m → ⊥
-          less_same l e = omega arith
 
 -- a task waits or is held back, by its record and by its words
 pub pending_words : (a : Setup) (n : ℕ) (h : History) (t : ℕ) → TaskKept a n (lists h) t (words_of a h t) → is_pending (state t h) ≡ pending t h

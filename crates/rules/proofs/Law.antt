@@ -8,7 +8,7 @@ use Rattle.bank.specs.Meaning.{Lists}
 use Rattle.plan.specs.Contents.{length_at}
 use Rattle.rules.specs.Answers.{Event, made, released, asked, gave, finished, ticked, Answered}
 use Rattle.rules.specs.Histories.{History, lists, releases, job, wanted, issued, used, holding, pending, state_of, jobs_after, after}
-use Rattle.rules.specs.Holders.{NamesLate, IsNearestEnd, nearest_end}
+use Rattle.rules.specs.Holders.{NamesLate}
 use Rattle.rules.specs.Jobs.{Setup, Snapshot, runs}
 use Rattle.rules.specs.Moves.{Does}
 use Rattle.rules.specs.Promises.{Kept, InMode, AtMost, WithinLength, AnsweredAfter, Lawful}
@@ -18,7 +18,7 @@ use Rattle.rules.specs.States.{is_ready, is_pending}
 use Rattle.rules.specs.declared.task.Wanted.{Wanted}
 use Rattle.rules.proofs.Ends.{held_back_lem}
 use Rattle.rules.proofs.Gives.{entries}
-use Rattle.rules.proofs.Holders.{names_late, is_nearest, pending_words}
+use Rattle.rules.proofs.Holders.{names_late, pending_words}
 use Rattle.rules.proofs.Lift.{Setting, InvOf, SoundOf, Stepped, released_stepped}
 use Rattle.rules.proofs.LiftAsk.{asked_stepped}
 use Rattle.rules.proofs.LiftFinish.{finished_stepped}
@@ -211,10 +211,6 @@ begins a s b sound = lawful_run (starts b sound)
 -- a task waits or is held back
 pub pending_lem : {a : Setup} {s : Snapshot} {h : History} → Runs a s h → (t : ℕ) → is_pending (s.tasks t).state ≡ pending t h
 pending_lem {a} {s} {h} run t = let end = run_end run in ap (λ (z : Snapshot). is_pending (z.tasks t).state) end.same ∙ pending_words a (releases h) h t (end.inv.tasks t)
-
--- the holder nearest its end
-pub nearest_lem : {a : Setup} {s : Snapshot} {h : History} → Runs a s h → IsNearestEnd a (after a h) (nearest_end a s)
-nearest_lem {a} {s} {h} run = let end = run_end run in subst (λ (z : Snapshot). IsNearestEnd a (after a h) (nearest_end a z)) (sym end.same) (is_nearest a h end.inv)
 
 -- the lowest late task
 pub late_lem : {a : Setup} {s : Snapshot} {h : History} → Runs a s h → NamesLate a (after a h) (late_task a s)

@@ -1,12 +1,13 @@
 -- The jobs of a table as rows, each at the place of its task.
 use Rattle.std.specs.Prelude.{◌≡◌, ℕ, ◌-◌, Bool, true, false, cond, not, ◌&&◌, List, Some, None, Option, ◌==◌, nat_le, nat_lt, slice_index, slice_index_or}
 use Rattle.std.specs.Option.{unwrap_or}
+use Rattle.bank.specs.Meaning.{Lists}
 use Rattle.bank.specs.Questions.{Told}
 use Rattle.order.specs.declared.elements.Holder.{Holder}
 use Rattle.order.specs.declared.elements.Job.{Job}
 use Rattle.plan.specs.Contents.{Contents, length_at}
 use Rattle.rules.specs.Holders.{task_and_left}
-use Rattle.rules.specs.Jobs.{Jobs, Setup, cluster_of, count_below, least_below, if_first}
+use Rattle.rules.specs.Jobs.{Jobs, Setup, Snapshot, cluster_of, count_below, least_below, if_first}
 use Rattle.rules.specs.States.{is_idle, is_ready, is_held_back, is_holding, wanted_of, idle_task}
 use Rattle.rules.specs.declared.task.State.{State}
 use Rattle.rules.specs.declared.task.State.TheVariants.{Idle, Going, HeldBack as Held, Waiting, Holding}
@@ -40,6 +41,11 @@ ranks_among p n rows which t = selects which (tasks_in n rows t).state && nat_lt
 
 abbrev pub setup_with : Contents → Told → ℕ → ℕ → Setup
 setup_with p told n k = record { plan = p; told = told; tasks = n; resources = k }
+
+-- how the tasks of a table stand, beside the lists of a bank, a clock and a number of releases
+abbrev pub snapshot_with : ℕ → List Task → Lists → ℕ → ℕ → Snapshot
+snapshot_with n rows ls clock releases =
+    record { tasks = tasks_in n rows; lists = ls; clock = clock; releases = releases }
 
 -- the task of the earliest held-back job of a cluster
 abbrev pub earliest_of : Contents → ℕ → List Task → ℕ → Option ℕ

@@ -1,7 +1,10 @@
 ghost use Rattle.std.specs.Prelude.{◌≡◌, ℕ, ◌<◌, None, slice_index_or};
 ghost use Rattle.std.specs.Option.{option_map};
 ghost use Rattle.plan.specs.Of.{plan_contents};
-ghost use Rattle.table.specs.Rows.{holder_at, nearest_of};
+ghost use Rattle.bank.specs.Meaning.{Lists};
+ghost use Rattle.bank.specs.Questions.{Told};
+ghost use Rattle.rules.specs.Holders.{IsNearestEnd};
+ghost use Rattle.table.specs.Rows.{holder_at, nearest_of, setup_with, snapshot_with};
 
 use crate::table::Table;
 use order::elements::{AbsentLast, Holder};
@@ -48,7 +51,11 @@ impl Table<'_> {
     /// The task of the holder that has the fewest ticks left, of equal ones the lowest, and its
     /// ticks left. Nothing where nobody holds.
     pub fn nearest_end(&self) -> Option<(u32, u32)>
-        ensures { result ≡ nearest_of (plan_contents self.now.plan.now) self.now.tasks self.now.rows.now }
+        ensures value { result ≡ nearest_of (plan_contents self.now.plan.now) self.now.tasks
+            self.now.rows.now }
+        ensures nearest { (told : Told) (k : ℕ) (ls : Lists) (clock releases : ℕ) → IsNearestEnd
+            (setup_with (plan_contents self.now.plan.now) told self.now.tasks k)
+            (snapshot_with self.now.tasks self.now.rows.now ls clock releases) result }
     {
         let holder = self.nearest()?;
         Some((holder.task, holder.left))

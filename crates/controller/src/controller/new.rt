@@ -3,6 +3,7 @@ ghost use Rattle.controller.specs.Checks.{Checked};
 ghost use Rattle.controller.specs.Of.{setup_of, snapshot_of};
 ghost use Rattle.plan.specs.Contents.{resource_count};
 ghost use Rattle.plan.specs.Of.{plan_contents};
+ghost use Rattle.rules.specs.Fits.{TellsFit};
 ghost use Rattle.rules.specs.Questions.{fits_at, fits, fit_questions};
 ghost use Rattle.rules.specs.Runs.{Begins, Starts};
 ghost use Rattle.rules.specs.States.{idle_task};
@@ -52,7 +53,10 @@ impl<B: Bank> Controller<B> {
     /// Whether the bank has the plan's resources, each with the plan's k and modes, as many seats
     /// as the plan has processors, and nobody active. Refused with 24 where it has not.
     pub fn fits(plan: &Plan, bank: &B) -> Result<(), Refusal>
-        ensures { Checked (fit_questions (plan_contents plan.now) (B.Bank.told bank.now) (B.Bank.active bank.now)) result }
+        ensures checked { Checked (fit_questions (plan_contents plan.now) (B.Bank.told bank.now)
+            (B.Bank.active bank.now)) result }
+        ensures fits { TellsFit (plan_contents plan.now) (B.Bank.told bank.now)
+            (B.Bank.active bank.now) result }
     {
         if fits_all(plan, bank) {
             Ok(())

@@ -1,7 +1,9 @@
 ghost use Rattle.std.specs.Prelude.{◌≡◌};
 ghost use Rattle.controller.specs.Limits.{TellsLimit, TellsTurns};
 ghost use Rattle.controller.specs.Of.{setup_of, snapshot_of};
-ghost use Rattle.rules.specs.Holders.{nearest_end};
+ghost use Rattle.rules.specs.Histories.{History, after, pending};
+ghost use Rattle.rules.specs.Holders.{IsNearestEnd, nearest_end};
+ghost use Rattle.rules.specs.Runs.{Runs};
 ghost use Rattle.rules.specs.States.{is_pending};
 
 use crate::controller::Controller;
@@ -37,14 +39,16 @@ impl<B: Bank> Controller<B> {
     /// The task of the holder that has the fewest ticks left, of equal ones the lowest, and its
     /// ticks left: how many accepted ticks it may still hold. Nothing where nobody holds.
     pub fn nearest_end(&self) -> Option<(u32, u32)>
-        ensures { result ≡ nearest_end (setup_of B.Bank self.now) (snapshot_of B.Bank self.now) }
+        ensures value { result ≡ nearest_end (setup_of B.Bank self.now) (snapshot_of B.Bank self.now) }
+        ensures nearest { IsNearestEnd (setup_of B.Bank self.now) (snapshot_of B.Bank self.now) result }
+        ensures run { (h : History) → Runs (setup_of B.Bank self.now) (snapshot_of B.Bank self.now) h
+            → IsNearestEnd (setup_of B.Bank self.now) (after (setup_of B.Bank self.now) h) result }
     {
         self.jobs().nearest_end()
     }
 
-    /// Whether a task waits or is held back: it has asked, and can neither work on nor give. A
-    /// task that does not exist is not.
-    pub fn is_pending(&self, task: u32) -> bool
+    // Whether a task waits or is held back, by its record.
+    fn has_pending(&self, task: u32) -> bool
         ensures { result ≡ is_pending ((snapshot_of B.Bank self.now).tasks task).state }
     {
         let t = task as usize;
@@ -53,5 +57,15 @@ impl<B: Bank> Controller<B> {
                 self.table.rows[t].state,
                 State::HeldBack(_) | State::Waiting(_)
             )
+    }
+
+    /// Whether a task waits or is held back: it has asked, and can neither work on nor give. A
+    /// task that does not exist is not.
+    pub fn is_pending(&self, task: u32) -> bool
+        ensures value { result ≡ is_pending ((snapshot_of B.Bank self.now).tasks task).state }
+        ensures run { (h : History) → Runs (setup_of B.Bank self.now) (snapshot_of B.Bank self.now) h
+            → result ≡ pending task h }
+    {
+        self.has_pending(task)
     }
 }

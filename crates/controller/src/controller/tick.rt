@@ -3,8 +3,10 @@ ghost use Rattle.controller.specs.Banks.{BankChanges};
 ghost use Rattle.controller.specs.Of.{setup_of, snapshot_of, Unchanged};
 ghost use Rattle.controller.specs.Ticks.{TicksTask, TicksAll};
 ghost use Rattle.rules.specs.Answers.{ticked};
+ghost use Rattle.rules.specs.Histories.{History, after};
+ghost use Rattle.rules.specs.Holders.{TickNames};
 ghost use Rattle.rules.specs.Moves.{Does};
-ghost use Rattle.rules.specs.Runs.{Follows};
+ghost use Rattle.rules.specs.Runs.{Follows, Runs};
 ghost use Rattle.rules.specs.States.{idle_task};
 
 use crate::controller::Controller;
@@ -80,6 +82,8 @@ impl<B: Bank> Controller<B> {
         ensures setup { setup_of B.Bank self.new ≡ setup_of B.Bank self.old }
         ensures does { Does (setup_of B.Bank self.old) (snapshot_of B.Bank self.old) (ticked result) (snapshot_of B.Bank self.new) }
         ensures follows { Follows (setup_of B.Bank self.old) (snapshot_of B.Bank self.old) (ticked result) (snapshot_of B.Bank self.new) }
+        ensures late { (h : History) → Runs (setup_of B.Bank self.old) (snapshot_of B.Bank self.old) h
+            → TickNames (setup_of B.Bank self.old) (after (setup_of B.Bank self.old) h) result }
         ensures bank { BankChanges B.Bank (snapshot_of B.Bank self.old) (ticked result) self.old.bank self.new.bank }
         ensures keeps { Unchanged result self.old self.new }
     {

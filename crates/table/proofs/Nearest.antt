@@ -1,0 +1,51 @@
+-- The holder nearest its end, where what each task has asked for keeps its declared length.
+use Rattle.std.proofs.Common.{◌≡◌, ℕ, ◌+◌, ◌-◌, ◌<◌, ◌≤◌, true, List, Some, None, Option, unwrap_or, sym, refl, ap, ◌∙◌, inl, ⊎_elim, arith}
+use Rattle.std.proofs.lemmas.Bool.{cases_lt, leb-true, false≢true, both_ways}
+use Rattle.bank.specs.Meaning.{Lists}
+use Rattle.bank.specs.Questions.{Told}
+use Rattle.plan.specs.Contents.{Contents, length_at}
+use Rattle.rules.specs.Holders.{HasLeft, IsNearestEnd, ticks_left}
+use Rattle.rules.specs.Jobs.{Setup, Snapshot}
+use Rattle.rules.specs.Questions.{length_for}
+use Rattle.rules.specs.States.{is_holding, wanted_of}
+use Rattle.rules.specs.declared.task.State.{State}
+use Rattle.rules.specs.declared.task.State.TheVariants.{Idle, Going, HeldBack, Waiting, Holding}
+use Rattle.rules.specs.declared.task.Task.{Task}
+use Rattle.rules.proofs.Holders.{is_nearest}
+use Rattle.table.specs.Rows.{tasks_in, is_within, keeps_length, KeepsLengths, setup_with, snapshot_with, nearest_of}
+use Rattle.table.proofs.Ranks.{tasks_past}
+
+-- a declared length that is not passed is what was used and the rest
+rest_of : (o : Option ℕ) (n : ℕ) → is_within n o ≡ true → o ≡ Some (n + (unwrap_or o 0 - n))
+rest_of None n e = absurd (false≢true e)
+rest_of (Some l) n e =
+    let le = leb-true n l e in
+    let same : l ≡ n + (l - n) = omega arith in
+    ap (λ (k : ℕ). Some k) same
+
+-- a holder has ticks left, or none
+holder_left : (a : Setup) (s : Snapshot) (t : ℕ) (st : State) → (s.tasks t).state ≡ st → keeps_length a.plan t (s.tasks t).used st ≡ true → is_holding st ≡ true → HasLeft a s t (ticks_left a s t)
+holder_left a s t Idle is kept e = absurd (false≢true e)
+holder_left a s t Going is kept e = absurd (false≢true e)
+holder_left a s t (HeldBack w) is kept e = absurd (false≢true e)
+holder_left a s t (Waiting w) is kept e = absurd (false≢true e)
+holder_left a s t (Holding w) is kept e = record {
+  wanted = w;
+  holds = is;
+  left = rest_of (length_at a.plan t w.resource) (s.tasks t).used kept
+      ∙ ap (λ (st : State). Some ((s.tasks t).used + (length_for a t (wanted_of st).resource - (s.tasks t).used))) (sym is);
+}
+
+-- who holds is one of the first n tasks
+holder_known : (n : ℕ) (rows : List Task) (t : ℕ) → is_holding (tasks_in n rows t).state ≡ true → t < n
+holder_known n rows t e =
+    ⊎_elim
+    (λ (l : t < n). l)
+    (λ (far : n ≤ t). absurd (both_ways (is_holding (tasks_in n rows t).state) (ap (λ (k : Task). is_holding k.state) (tasks_past n rows t (inl far))) e))
+    (cases_lt t n)
+
+pub nearest_kept : (p : Contents) (n : ℕ) (rows : List Task) → KeepsLengths p (tasks_in n rows) → (told : Told) (k : ℕ) (ls : Lists) (clock releases : ℕ) → IsNearestEnd (setup_with p told n k) (snapshot_with n rows ls clock releases) (nearest_of p n rows)
+nearest_kept p n rows kept told k ls clock releases =
+    let a = setup_with p told n k in
+    let s = snapshot_with n rows ls clock releases in
+    is_nearest a s (holder_known n rows) (λ t e. holder_left a s t (s.tasks t).state refl (kept t) e)
