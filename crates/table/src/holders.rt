@@ -48,6 +48,15 @@ impl Table<'_> {
         row[first_of(&row)?].0
     }
 
+    // Its task and its ticks left.
+    fn task_and_left(&self) -> Option<(u32, u32)>
+        ensures { result ≡ nearest_of (plan_contents self.now.plan.now) self.now.tasks
+            self.now.rows.now }
+    {
+        let holder = self.nearest()?;
+        Some((holder.task, holder.left))
+    }
+
     /// The task of the holder that has the fewest ticks left, of equal ones the lowest, and its
     /// ticks left. Nothing where nobody holds.
     pub fn nearest_end(&self) -> Option<(u32, u32)>
@@ -57,7 +66,6 @@ impl Table<'_> {
             (setup_with (plan_contents self.now.plan.now) told self.now.tasks k)
             (snapshot_with self.now.tasks self.now.rows.now ls clock releases) result }
     {
-        let holder = self.nearest()?;
-        Some((holder.task, holder.left))
+        self.task_and_left()
     }
 }

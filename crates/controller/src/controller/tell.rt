@@ -36,6 +36,13 @@ impl<B: Bank> Controller<B> {
         Ok(ticks_of_turns(turns, longest))
     }
 
+    // The holder nearest its end, by the records.
+    fn nearest(&self) -> Option<(u32, u32)>
+        ensures { result ≡ nearest_end (setup_of B.Bank self.now) (snapshot_of B.Bank self.now) }
+    {
+        self.jobs().nearest_end()
+    }
+
     /// The task of the holder that has the fewest ticks left, of equal ones the lowest, and its
     /// ticks left: how many accepted ticks it may still hold. Nothing where nobody holds.
     pub fn nearest_end(&self) -> Option<(u32, u32)>
@@ -44,7 +51,7 @@ impl<B: Bank> Controller<B> {
         ensures run { (h : History) → Runs (setup_of B.Bank self.now) (snapshot_of B.Bank self.now) h
             → IsNearestEnd (setup_of B.Bank self.now) (after (setup_of B.Bank self.now) h) result }
     {
-        self.jobs().nearest_end()
+        self.nearest()
     }
 
     // Whether a task waits or is held back, by its record.

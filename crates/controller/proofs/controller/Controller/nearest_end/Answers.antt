@@ -1,16 +1,18 @@
-use Rattle.std.proofs.Common.{subst}
+use Rattle.std.proofs.Common.{sym, subst}
+use Rattle.plan.specs.Of.{plan_contents}
 use Rattle.rules.specs.Holders.{IsNearestEnd}
 use Rattle.rules.specs.Jobs.{Snapshot}
 use Rattle.rules.proofs.Law.{stands}
+use Rattle.table.proofs.Nearest.{nearest_kept}
 use Rattle.controller.specs.Of.{setup_of, snapshot_of}
 use Rattle.controller.proofs.controller.Controller.nearest_end.Goals as goal
 
 pub returns-clause-nearest : goal.returns-clause-nearest
 returns-clause-nearest g c =
-    let a = setup_of g.B.Bank c.args.self.now in
-    let s = snapshot_of g.B.Bank c.args.self.now in
-    rw (c.jobs.ensures.plan, c.jobs.ensures.tasks, c.jobs.ensures.rows) at (c.nearest_end.ensures.nearest a.told a.resources s.lists s.clock s.releases)
+    let self = c.args.self.now in
+    let a = setup_of g.B.Bank self in
+    let s = snapshot_of g.B.Bank self in
+    subst (IsNearestEnd a s) (sym c.nearest.ensures) (nearest_kept (plan_contents self.plan) self.tasks self.table.rows self.keeps_lengths a.told a.resources s.lists s.clock s.releases)
 
 pub returns-clause-run : goal.returns-clause-run
-returns-clause-run g c h run =
-    subst (λ (z : Snapshot). IsNearestEnd (setup_of g.B.Bank c.args.self.now) z c.nearest_end.result) (stands run) (returns-clause-nearest g c)
+returns-clause-run g c h run = subst (λ (z : Snapshot). IsNearestEnd (setup_of g.B.Bank c.args.self.now) z c.nearest.result) (stands run) (returns-clause-nearest g c)
