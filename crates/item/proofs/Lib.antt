@@ -1,4 +1,3 @@
 pub mod Fronts
-pub mod Heads
 pub mod Lines
 pub mod Sizes

@@ -1,6 +1,6 @@
 -- An item of a plan and its line: the five forms.
-use Rattle.std.specs.Prelude.{◌≡◌, ℕ, ◌<◌, Bool, false, cond, List, [], ◌∷◌, ◌++◌}
-use Rattle.std.specs.Prelude.{Some, None, Ok, Err, codes, decimal, Option, Result, is_some, ◌==◌, ◌≢◌}
+use Rattle.std.specs.Prelude.{◌≡◌, ℕ, ◌<◌, Bool, false, cond, List, [], ◌∷◌, ◌++◌, ◌==◌, ◌≢◌}
+use Rattle.std.specs.Prelude.{Some, None, Ok, Err, Option, Result, is_some, codes, decimal}
 use Prim.Native.Char.{code}
 use Rattle.text.specs.Numbers.{read_number}
 use Rattle.text.specs.Questions.{Question, ask, first_no}

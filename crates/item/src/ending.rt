@@ -3,8 +3,9 @@ ghost use Rattle.std.specs.Prelude.{◌≡◌, ◌+◌, ◌<◌, ◌≤◌, [], 
 use itoa::write_digits;
 use std::marker::Model;
 
-// The end of a line. It grows to the front, since a number's digits come from the last to the first.
-// Not compared: the places in front of the start are of no account, and a derived comparison would read them.
+// The end of a line. It grows to the front, since a number's digits come from the last to the
+// first. Not compared: the places in front of the start are of no account, and a derived comparison
+// would read them.
 #[derive(Drop)]
 pub(crate) struct Ending {
     places: [u8; 40],

@@ -13,8 +13,8 @@ fn behind_comma(s: &[u8]) -> Option<(u32, &[u8])>
     }
 }
 
-/// The number of a field behind its comma, and the rest of the line. Nothing where no comma stands first, or no number of
-/// one to five digits behind it.
+/// The number of a field behind its comma, and the rest of the line. Nothing where no comma stands
+/// first, or no number of one to five digits behind it.
 pub fn read_field(s: &[u8]) -> Option<(u32, &[u8])>
     ensures { read_field s.now ≡ elim result [ None ↦ None | Some p ↦ Some (p.0, p.1.now) ] }
 {
@@ -28,7 +28,8 @@ pub fn is_newline(s: &[u8]) -> bool
     matches!(s, [b'\n'])
 }
 
-/// The number of the last field of a line, behind its comma and before its newline. Nothing where the line is otherwise.
+/// The number of the last field of a line, behind its comma and before its newline. Nothing where
+/// the bytes are otherwise.
 pub fn read_last(s: &[u8]) -> Option<u32>
     ensures { result ≡ read_last s.now }
 {

@@ -81,7 +81,8 @@ fn write_line(item: Item, out: &mut [u8], at: usize) -> Result<usize, Refusal>
 }
 
 impl Item {
-    /// The line of an item, with its newline. At most 35 bytes: numbers here may have up to ten digits.
+    /// The line of an item, with its newline: at most 35 bytes, since a number here may have ten
+    /// digits.
     pub fn line(self) -> ByteVec<40>
         ensures text { result ≡ item_text self }
         ensures few { length result ≤ 35 }
@@ -96,9 +97,10 @@ impl Item {
         self.line().len()
     }
 
-    /// Writes an item's line, with its newline, at a place, and answers the place behind it. Where it does not fit,
-    /// nothing is written and the refusal is 23.
-    // Memory and place stay apart: a struct of both would promise in each contract and loop that it still lends the same memory.
+    /// Writes an item's line, with its newline, at a place, and answers the place behind it. Where
+    /// it does not fit, nothing is written and the refusal is 23.
+    // Memory and place stay apart: a struct of both would promise in each contract and loop that it
+    // still lends the same memory.
     #[tactic(auto, using(crate::proofs::Lines::read_back))]
     pub fn write(self, out: &mut [u8], at: usize) -> Result<usize, Refusal>
         ensures writes { Writes out.old at (item_text self) result out.new }

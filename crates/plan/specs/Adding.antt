@@ -1,5 +1,6 @@
 -- What a line adds to a plan, and the questions put to a line and to sealing.
-use Rattle.std.specs.Prelude.{◌≡◌, ℕ, ◌+◌, Bool, true, ◌&&◌, ◌||◌, List, [], ◌∷◌, ◌++◌, length, Some, None, Option, ◌==◌, nat_le, nat_lt}
+use Rattle.std.specs.Prelude.{◌≡◌, ℕ, ◌+◌, Bool, true, ◌&&◌, ◌||◌, List, []}
+use Rattle.std.specs.Prelude.{◌∷◌, ◌++◌, length, Some, None, Option, ◌==◌, nat_le, nat_lt}
 use Rattle.item.specs.declared.item.Item.{Item}
 use Rattle.item.specs.declared.item.Item.TheVariants.{Cluster, Slots, ReaderWriter, Task, Length}
 use Rattle.item.specs.Lines.{form_questions}
@@ -40,7 +41,8 @@ in_limits c (Cluster n) = within 1 8 n
 in_limits c (Slots k) = within 1 (processors c) k
 in_limits c ReaderWriter = true
 in_limits c (Task g) = nat_lt g (length c.clusters)
-in_limits c (Length t r n) = nat_lt t (length c.tasks) && (nat_lt r (resource_count c) && within 1 10000 n)
+in_limits c (Length t r n) =
+    nat_lt t (length c.tasks) && (nat_lt r (resource_count c) && within 1 10000 n)
 
 -- the table is not full; a length in its limits has a place of its own
 abbrev pub has_room : Contents → Item → Bool
@@ -60,18 +62,20 @@ line_questions c (Some i) = form_questions (Some i) ++ item_questions c i
 
 -- there is a cluster, a resource and a task
 abbrev pub complete : Contents → Bool
-complete c = nat_lt 0 (length c.clusters) && (nat_lt 0 (resource_count c) && nat_lt 0 (length c.tasks))
+complete c =
+    nat_lt 0 (length c.clusters) && (nat_lt 0 (resource_count c) && nat_lt 0 (length c.tasks))
 
 abbrev pub seal_questions : Contents → List Question
 seal_questions c = ask 20 (complete c) ∷ []
 
 -- an item is put at the end of its own table, and nothing else changes
 abbrev pub added : Contents → Item → Contents
-added c (Cluster n) = record { clusters = c.clusters ++ (n ∷ []); slots = c.slots; reader_writers = c.reader_writers; tasks = c.tasks; lengths = c.lengths }
-added c (Slots k) = record { clusters = c.clusters; slots = c.slots ++ (k ∷ []); reader_writers = c.reader_writers; tasks = c.tasks; lengths = c.lengths }
-added c ReaderWriter = record { clusters = c.clusters; slots = c.slots; reader_writers = c.reader_writers + 1; tasks = c.tasks; lengths = c.lengths }
-added c (Task g) = record { clusters = c.clusters; slots = c.slots; reader_writers = c.reader_writers; tasks = c.tasks ++ (g ∷ []); lengths = c.lengths }
-added c (Length t r n) = record { clusters = c.clusters; slots = c.slots; reader_writers = c.reader_writers; tasks = c.tasks; lengths = c.lengths ++ (record { task = t; resource = r; ticks = n } ∷ []) }
+added c (Cluster n) = record c { clusters = c.clusters ++ (n ∷ []) }
+added c (Slots k) = record c { slots = c.slots ++ (k ∷ []) }
+added c ReaderWriter = record c { reader_writers = c.reader_writers + 1 }
+added c (Task g) = record c { tasks = c.tasks ++ (g ∷ []) }
+added c (Length t r n) =
+    record c { lengths = c.lengths ++ (record { task = t; resource = r; ticks = n } ∷ []) }
 
 -- what a taken line adds
 abbrev pub Adds : Contents → Option Item → Contents → Type 0

@@ -1,5 +1,6 @@
 -- What a plan says.
-use Rattle.std.specs.Prelude.{ℕ, zero, suc, ◌+◌, max, cond, ◌&&◌, List, [], ◌∷◌, ◌++◌, map, length, replicate, Some, None, sum, Option, ◌==◌, nat_lt, slice_index}
+use Rattle.std.specs.Prelude.{ℕ, zero, suc, ◌+◌, max, cond, ◌&&◌, List, [], ◌∷◌}
+use Rattle.std.specs.Prelude.{◌++◌, map, length, replicate, Some, None, sum, Option, ◌==◌, nat_lt, slice_index}
 use Rattle.std.specs.Option.{unwrap_or}
 use Rattle.item.specs.declared.item.Item.{Item}
 use Rattle.item.specs.declared.item.Item.TheVariants.{Cluster, Slots, ReaderWriter, Task, Length}
@@ -25,7 +26,8 @@ pub record Contents : Type 0 where
 
 -- `C,1` `S,1` `T,0`: what a place for a plan holds at first
 abbrev pub smallest : Contents
-smallest = record { clusters = 1 ∷ []; slots = 1 ∷ []; reader_writers = 0; tasks = 0 ∷ []; lengths = [] }
+smallest =
+    record { clusters = 1 ∷ []; slots = 1 ∷ []; reader_writers = 0; tasks = 0 ∷ []; lengths = [] }
 
 -- m, the processors of all clusters
 abbrev pub processors : Contents → ℕ
@@ -40,7 +42,9 @@ entry_at xs i = cond (nat_lt i (length xs)) (Some (slice_index xs i)) None
 
 -- the kind of a resource, if it exists
 abbrev pub resource_at : Contents → ℕ → Option Resource
-resource_at c r = cond (nat_lt r (length c.slots)) (Some (SlotsFor (slice_index c.slots r))) (cond (nat_lt r (resource_count c)) (Some OneWriter) None)
+resource_at c r =
+    cond (nat_lt r (length c.slots)) (Some (SlotsFor (slice_index c.slots r)))
+    (cond (nat_lt r (resource_count c)) (Some OneWriter) None)
 
 -- the length of a task at a resource, if one is declared
 abbrev pub length_in : List Declared → ℕ → ℕ → Option ℕ
@@ -68,4 +72,9 @@ length_item d = Length d.task d.resource d.ticks
 
 -- the items of a plan in the order of their lines
 abbrev pub items_of : Contents → List Item
-items_of c = map Cluster c.clusters ++ (map Slots c.slots ++ (replicate c.reader_writers ReaderWriter ++ (map Task c.tasks ++ map length_item c.lengths)))
+items_of c =
+    map Cluster c.clusters
+    ++ (map Slots c.slots
+    ++ (replicate c.reader_writers ReaderWriter
+    ++ (map Task c.tasks
+    ++ map length_item c.lengths)))

@@ -14,7 +14,14 @@ declared k [] = []
 declared k (n ∷ ns) = cond (n == 0) (declared (k + 1) ns) (placed k n ∷ declared (k + 1) ns)
 
 abbrev pub contents_of : Tables → Contents
-contents_of t = record { clusters = t.clusters; slots = t.slots; reader_writers = t.reader_writers; tasks = t.tasks; lengths = declared 0 t.lengths }
+contents_of t =
+    record {
+      clusters = t.clusters;
+      slots = t.slots;
+      reader_writers = t.reader_writers;
+      tasks = t.tasks;
+      lengths = declared 0 t.lengths;
+    }
 
 abbrev pub plan_contents : Plan → Contents
 plan_contents p = contents_of p.tables

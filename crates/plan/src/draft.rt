@@ -8,9 +8,11 @@ use crate::plan::Plan;
 use crate::tables::Tables;
 use text::refusal::Refusal;
 
-/// A plan in the making. Its tables lie in a place that is lent at each call; the draft counts the lines taken.
-/// It is moved from call to call, ends in a sealed plan or is discarded, and is not let go otherwise.
-// `Drop` asks for what no draft has, so that a forgotten draft is refused by the prover, and not only by the check of moves.
+/// A plan in the making. Its tables lie in a place that is lent at each call; the draft counts the
+/// lines. It is moved from call to call, ends in a sealed plan or is discarded, and is not let go
+/// otherwise.
+// `Drop` asks for what no draft has. So a draft that is forgotten is refused by the prover: a type
+// without `Drop` would be refused before the prover is asked.
 #[derive(Debug, PartialEq, Eq)]
 pub struct Draft {
     // the number of the next line, counted from 1
@@ -26,17 +28,19 @@ impl Drop for Draft {
     }
 }
 
-/// Why a line or a sealing was refused, and the number of the line, counted from 1.
+/// Why a line or a sealing was refused, and where.
 #[derive(Clone, Copy, Debug, PartialEq, Eq)]
 pub struct Refused {
+    /// The reason, with its number.
     pub refusal: Refusal,
-    // 0 where the plan has no end: the number that is printed
+    /// The number of the line, counted from 1: of a sealing one more than lines were taken; 0 where
+    /// a plan has no end.
     pub line: usize,
 }
 
 impl Draft {
-    /// Begins a draft that has taken no line, and empties the tables that are lent for it: what another draft put
-    /// there is gone.
+    /// Begins a draft that has taken no line, and empties the tables that are lent for it: what
+    /// another draft put there is gone.
     pub fn new(tables: &mut Tables) -> Draft
         ensures first { result.next ≡ 1 }
         ensures empty { contents_of tables.new ≡ empty }
@@ -53,7 +57,8 @@ impl Draft {
         next.saturating_sub(1)
     }
 
-    /// Takes one line, with its newline, into the tables.
+    /// Takes one line, with its newline, into the tables that are lent. Where the line is refused
+    /// (16 to 19), the tables are as they were and the draft comes back, to go on.
     pub fn add(self, tables: &mut Tables, line: &[u8]) -> Result<Draft, (Draft, Refused)>
         ensures { AddsLine self line.now tables.old result tables.new }
     {
@@ -70,7 +75,9 @@ impl Draft {
         }
     }
 
-    /// Fills the place of a plan from the tables.
+    /// Ends the draft: the place of a plan takes over the tables that are lent. Where a cluster, a
+    /// resource or a task is missing (20), the place is as it was and the draft comes back, to go
+    /// on.
     #[tactic(auto, using(crate::proofs::KeepsLimits::keeps_limits))]
     pub fn seal(self, tables: &Tables, into: &mut Plan) -> Result<(), (Draft, Refused)>
         ensures seals { Seals self tables.now into.old result into.new }

@@ -2,7 +2,8 @@ ghost use Rattle.std.specs.Prelude.{◌+◌, ◌<◌, length};
 
 use crate::tables::Tables;
 
-/// A sealed plan: its tables keep their limits, and it has a cluster, a resource and a task.
+/// A sealed plan: its tables keep their limits, and it has a cluster, a resource and a task. So
+/// each plan that there is keeps all limits, and nobody above tests one.
 #[derive(Clone, Copy, Debug, PartialEq, Eq)]
 pub struct Plan {
     pub(crate) tables: Tables,
@@ -11,4 +12,5 @@ pub struct Plan {
     ghost has_task: { 0 < length tables.tasks },
 }
 
+/// What a plan answers.
 pub mod ask;

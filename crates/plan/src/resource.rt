@@ -1,4 +1,4 @@
-/// The kind of a resource.
+/// The kind of a resource of a plan.
 #[derive(Clone, Copy, Debug, PartialEq, Eq)]
 pub enum Resource {
     /// For up to k holders at once.

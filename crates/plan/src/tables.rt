@@ -4,15 +4,18 @@ ghost use Rattle.plan.specs.Limits.{Holds, Between, Declares, EndsDeclared};
 use byte_vec::byte_vec::ByteVec;
 
 /// The tables of a plan or of a draft. Equal tables are equal values.
+// A `ByteVec<N>` is a table of N places together with its count: the places behind the count are 0.
 #[derive(Clone, Copy, Debug, PartialEq, Eq)]
 pub struct Tables {
     pub(crate) clusters: ByteVec<8>,
     pub(crate) slots: ByteVec<16>,
     pub(crate) reader_writers: usize,
     pub(crate) tasks: ByteVec<64>,
-    // fixed memory: a place for each task and resource, and 0 where no length is declared, since none of 0 can be
+    // fixed memory: place 16 t + r for task t at resource r, and 0 where no length is declared,
+    // since none is 0
     pub(crate) lengths: [u16; 1024],
-    // how many places have been passed, so that a line in order is known without a look at the places
+    // the count of this table: how many places have been passed, so that a line in order is known
+    // without a look at the places
     pub(crate) lengths_end: usize,
     ghost few_clusters: { length clusters ≤ 8 },
     ghost clusters_sized: { Between 1 9 clusters },
@@ -25,4 +28,5 @@ pub struct Tables {
     ghost lengths_ended: { EndsDeclared lengths lengths_end },
 }
 
+/// What a line is asked, and what it adds.
 pub mod add;

@@ -1,5 +1,6 @@
 -- Whole texts: what they are read as, and the text of a plan.
-use Rattle.std.specs.Prelude.{◌≡◌, ℕ, ◌+◌, List, [], ◌∷◌, map, Some, None, Ok, Err, Option, Result, ◌≢◌}
+use Rattle.std.specs.Prelude.{◌≡◌, ℕ, ◌+◌, List, [], ◌∷◌, map}
+use Rattle.std.specs.Prelude.{Some, None, Ok, Err, Option, Result, ◌≢◌}
 use Rattle.std.specs.List.{flat_map}
 use Rattle.item.specs.Lines.{item_text, read_item}
 use Rattle.item.specs.declared.item.Item.{Item}
@@ -37,7 +38,8 @@ grown c (Some i) = added c i
 -- lines are taken one by one, and then the draft is sealed
 abbrev pub judge : Contents → ℕ → List (Option Item) → Verdict
 judge c line [] = decide (first_no (seal_questions c)) line (Ok c)
-judge c line (i ∷ is) = decide (first_no (line_questions c i)) line (judge (grown c i) (line + 1) is)
+judge c line (i ∷ is) =
+    decide (first_no (line_questions c i)) line (judge (grown c i) (line + 1) is)
 
 abbrev pub read_text : List ℕ → Verdict
 read_text text = judge empty 1 (map read_item (lines_of text))
@@ -45,12 +47,15 @@ read_text text = judge empty 1 (map read_item (lines_of text))
 -- the place of a plan holds what the text says, or it is as it was and the answer is the refusal
 abbrev pub ReadsText : List ℕ → Plan → Result (Unit {0}) Refused → Plan → Type 0
 ReadsText text old (Ok done) new = read_text text ≡ Ok (plan_contents new)
-ReadsText text old (Err why) new = (read_text text ≡ Err (number why.refusal, why.line)) × (new ≡ old)
+ReadsText text old (Err why) new =
+    (read_text text ≡ Err (number why.refusal, why.line)) × (new ≡ old)
 
 -- an accepted text is exactly the text of the plan that it became, and of no other plan;
 -- a refused text is no plan's text
 abbrev pub IsTextOf : List ℕ → Result (Unit {0}) Refused → Plan → Type 0
-IsTextOf text (Ok done) new = (text ≡ plan_text (plan_contents new)) × ((p : Plan) → text ≡ plan_text (plan_contents p) → p ≡ new)
+IsTextOf text (Ok done) new =
+    (text ≡ plan_text (plan_contents new))
+    × ((p : Plan) → text ≡ plan_text (plan_contents p) → p ≡ new)
 IsTextOf text (Err why) new = (p : Plan) → text ≢ plan_text (plan_contents p)
 
 -- the text of a plan is accepted and says what the plan says

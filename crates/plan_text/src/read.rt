@@ -7,7 +7,8 @@ use plan::plan::Plan;
 use plan::tables::Tables;
 use text::line::first_line;
 
-// Takes the lines of a text one by one, and seals. The public call says besides which texts are accepted.
+// Takes the lines of a text one by one, and seals. The public call says besides which texts are
+// taken.
 #[tactic(auto, using(crate::proofs::Reading::line_taken, crate::proofs::Reading::line_refused, crate::proofs::Reading::cut_lines, std::proofs::lemmas::Bool::Decides::nat_tests, std::proofs::lemmas::Grind::common_steps))]
 fn take_text(text: &[u8], into: &mut Plan) -> Result<(), Refused>
     ensures { ReadsText text.now into.old result into.new }
@@ -36,7 +37,8 @@ fn take_text(text: &[u8], into: &mut Plan) -> Result<(), Refused>
     }
 }
 
-/// Reads a whole text into the place of a plan, or refuses it at a line and leaves the place as it was.
+/// Reads a whole text into the place of a plan, or refuses it (16 to 20) at a line and leaves the
+/// place as it was.
 #[tactic(auto, using(crate::proofs::Image::is_text_of, plan::proofs::KeepsLimits::keeps_limits))]
 pub fn read(text: &[u8], into: &mut Plan) -> Result<(), Refused>
     ensures reads { ReadsText text.now into.old result into.new }

@@ -11,8 +11,8 @@ use plan::plan::Plan;
 use text::memory::write_bytes;
 use text::refusal::Refusal;
 
-// Lays the line of an item, and answers the place behind it.
-// Memory and place stay apart: a struct of both would promise in each contract and loop that it still lends the same memory.
+// Lays the line of an item, and answers the place behind it. Memory and place stay apart: a struct
+// of both would promise in each contract and loop that it still lends the same memory.
 fn lay_item(out: &mut [u8], at: usize, item: Item) -> usize
     requires { at + 35 < 2 ^ 64 }
     ensures few { result ≤ at + 35 }
@@ -141,8 +141,8 @@ fn write_text(plan: &Plan, out: &mut [u8]) -> Result<usize, Refusal>
     Ok(lay_plan(plan, out))
 }
 
-/// Writes the text of a plan at the start of memory, and answers its size in bytes. Where it does not fit, nothing is
-/// written and the refusal is 23. 15,568 bytes are enough for each plan.
+/// Writes the text of a plan at the start of memory, and answers its size in bytes. Where it does
+/// not fit, nothing is written and the refusal is 23. 15,568 bytes are enough for each plan.
 #[tactic(auto, using(crate::proofs::Image::text_accepted))]
 pub fn write(plan: &Plan, out: &mut [u8]) -> Result<usize, Refusal>
     ensures writes { Writes out.old 0 (plan_text (plan_contents plan.now)) result out.new }

@@ -33,7 +33,7 @@ fn longest_length(tables: &Tables, resource: usize) -> u16
     ensures { result ≡ longest_at (contents_of tables.now) resource }
 {
     let mut longest: u16 = 0;
-    // by task number, since the place in the table is reckoned from it: a chain over parts of the table is no plainer
+    // by task number, since the place in the table is reckoned from it
     for task in 0..tables.tasks.len() {
         longest = longest.max(tables.lengths[task * 16 + resource]);
     }
@@ -63,7 +63,8 @@ impl Plan {
         }
     }
 
-    /// How many clusters there are.
+    /// How many clusters there are. Whoever is handed a plan asks this first, so it also says that
+    /// a plan keeps all its limits.
     #[tactic(auto, using(crate::proofs::KeepsLimits::keeps_limits))]
     pub fn clusters(&self) -> usize
         ensures value { result ≡ length (plan_contents self.now).clusters }
@@ -149,14 +150,15 @@ impl Plan {
         entry(self.tables.tasks.as_slice(), task)
     }
 
-    /// The length that a task declares at a resource, if any.
+    /// The length that a task declares at a resource, in ticks, if any.
     pub fn length(&self, task: usize, resource: usize) -> Option<u16>
         ensures { result ≡ length_at (plan_contents self.now) task resource }
     {
         declared_length(&self.tables, task, resource)
     }
 
-    /// The longest length declared for a resource, or 0 where none is; nothing if it does not exist.
+    /// The longest length declared for a resource, in ticks, or 0 where none is; nothing if the
+    /// resource does not exist.
     pub fn longest(&self, resource: usize) -> Option<u16>
         ensures { result ≡ longest_of (plan_contents self.now) resource }
     {

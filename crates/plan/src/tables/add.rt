@@ -158,7 +158,8 @@ impl Tables {
         Ok(())
     }
 
-    // One function for each table: each asks for other facts, and one for all would need a tag that names the table.
+    // One function for each table: each asks for other facts, and one for all would need a tag that
+    // names the table.
     pub(crate) fn store_cluster(&mut self, c: u8)
         requires { (1 ≤ c) × ((c ≤ 8) × ((length self.old.clusters < 8) × (length self.old.slots ≡ 0))) }
         ensures { contents_of self.new ≡ added (contents_of self.old) (ClusterItem c) }
