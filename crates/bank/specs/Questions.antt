@@ -1,5 +1,6 @@
 -- The questions that a bank puts, in order; the first answered no decides.
-use Rattle.std.specs.Prelude.{◌≡◌, ℕ, Bool, true, not, List, [], ◌∷◌, length, Some, None, Ok, Err, Result, nat_lt}
+use Rattle.std.specs.Prelude.{◌≡◌, ℕ, Bool, true, not, List, [], ◌∷◌, length}
+use Rattle.std.specs.Prelude.{Some, None, Ok, Err, Result, nat_lt}
 use Rattle.text.specs.Questions.{Question, ask, first_no}
 use Rattle.bank.specs.Lists.{is_active, is_holder}
 use Rattle.bank.specs.declared.refusal.Refusal.{Refusal}

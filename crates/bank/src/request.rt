@@ -13,15 +13,20 @@ pub enum Mode {
 /// Whether a request holds, or waits with so many turns and departures before it.
 #[derive(Debug, Clone, Copy, PartialEq, Eq)]
 pub enum Standing {
+    /// It holds.
     Holds,
+    /// It waits for so many turns, the present one included, and within that for so many holders to leave.
     Waits { turns: u32, departures: u32 },
 }
 
 /// An active request.
 #[derive(Debug, Clone, Copy, PartialEq, Eq)]
 pub struct Request {
+    /// Whose it is, from 0 to 63.
     pub party: u32,
+    /// How the resource is asked for.
     pub mode: Mode,
+    /// Whether it holds or waits.
     pub standing: Standing,
 }
 

@@ -1,5 +1,6 @@
 -- A list of at most n bytes, and what a change that may find no room does to it.
-use Rattle.std.specs.Prelude.{◌≡◌, ℕ, ◌+◌, List, ◌++◌, length, cond, nat_le, Ok, Err, Some, None, Option, Result}
+use Rattle.std.specs.Prelude.{◌≡◌, ℕ, ◌+◌, List, ◌++◌, length, cond, nat_le}
+use Rattle.std.specs.Prelude.{Ok, Err, Some, None, Option, Result}
 use Rattle.std.specs.List.{remove, slice_get}
 use Rattle.byte_vec.specs.declared.byte_vec.Full.{Full}
 

@@ -66,14 +66,14 @@ impl<const N: usize> ByteVec<N> {
         &self.places[..self.len]
     }
 
-    /// One byte more.
+    /// Appends a byte; where there is no room for it, nothing changes.
     pub fn push(&mut self, byte: u8) -> Result<(), Full>
         ensures { Appends N self.old (byte ∷ []) result self.new }
     {
         self.extend_from_slice(&[byte])
     }
 
-    /// More bytes.
+    /// Appends bytes; where there is no room for all of them, nothing changes.
     #[tactic(auto, using(crate::proofs::Filling::filled_more))]
     pub fn extend_from_slice(&mut self, bytes: &[u8]) -> Result<(), Full>
         ensures { Appends N self.old bytes.now result self.new }
@@ -88,7 +88,7 @@ impl<const N: usize> ByteVec<N> {
         Ok(())
     }
 
-    // Apart from the public call, so that an edit there is refused by the contract and not at a proof.
+    // Takes out the byte at a place, if there is one.
     fn take_out(&mut self, place: usize) -> Option<u8>
         ensures { Removes self.old place result self.new }
     {

@@ -40,7 +40,7 @@ one_of b make fits text bs = last (read_field bs) (field_of bs)
 -- a mode that was read, written, is the end it was read from
 abbrev ModeAt : List ℕ → Option Mode → Type 0
 ModeAt bs None = Unit {0}
-ModeAt bs (Some m) = bs ≡ 44 ∷ (mode_letter m ++ (10 ∷ []))
+ModeAt bs (Some m) = bs ≡ 44 ∷ mode_letter m ∷ 10 ∷ []
 
 mode_at : (bs : List ℕ) → ModeAt bs (read_mode bs)
 mode_at [] = tt
@@ -84,17 +84,12 @@ is_line_of line = from (read_event line) refl (event_of_lem line)
     from None e w = λ i small text. let z = sym e ∙ (ap read_event text ∙ read_back i small) in let n : ◌≡◌ {A = ℕ} 0 1 = cc in omega arith
     from (Some i) e w = w
 
-pub size_mode : (m : Mode) → length (mode_letter m ++ (10 ∷ [])) ≡ 2
-size_mode Write = refl
-size_mode Read = refl
-
 -- an event's line is at most sixteen bytes
 pub size_text : (e : Event) → Writable e → length (event_text e) ≤ 16
 size_text (Release t) small = simp length-append (omega (arith, size_number t small))
 size_text (Ask t r m) small =
-    let last = size_mode m in
-    let middle = length-append (decimal r) (44 ∷ (mode_letter m ++ (10 ∷ []))) in
-    let whole = length-append (decimal t) (44 ∷ (decimal r ++ (44 ∷ (mode_letter m ++ (10 ∷ []))))) in
+    let middle = length-append (decimal r) (44 ∷ mode_letter m ∷ 10 ∷ []) in
+    let whole = length-append (decimal t) (44 ∷ (decimal r ++ (44 ∷ mode_letter m ∷ 10 ∷ []))) in
     omega (arith, size_number t small.0, size_number r small.1)
 size_text (Give t) small = simp length-append (omega (arith, size_number t small))
 size_text (Finish t) small = simp length-append (omega (arith, size_number t small))

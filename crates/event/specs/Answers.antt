@@ -1,5 +1,7 @@
 -- An event with its answer, and the line that is printed of it.
-use Rattle.std.specs.Prelude.{ℕ, Bool, true, false, List, [], ◌∷◌, ◌++◌, length, Some, None, Ok, Err, codes, decimal, Option, Result}
+use Rattle.std.specs.Prelude.{ℕ, Bool, true, false, List, [], ◌∷◌, ◌++◌, length}
+use Rattle.std.specs.Prelude.{Some, None, Ok, Err, Option, Result, codes, decimal}
+use Prim.Native.Char.{code}
 use Rattle.rules.specs.Answers.{Event as Call, made, released, asked, gave, finished, ticked}
 use Rattle.rules.specs.Refusals.{number, task_named}
 use Rattle.rules.specs.declared.answer.Asked.{Asked}
@@ -34,35 +36,35 @@ event_of (ticked x) = Some Tick
 
 -- the task that a refusal names, if it names one, and the newline
 abbrev pub named_text : Option ℕ → List ℕ
-named_text None = 10 ∷ []
-named_text (Some t) = 44 ∷ (decimal t ++ (10 ∷ []))
+named_text None = codes "\n"
+named_text (Some t) = code "," ∷ (decimal t ++ codes "\n")
 
 -- a refusal: `no,` and its number, with `,` the task that it names
 abbrev pub refused_text : Refusal → List ℕ
 refused_text why = codes "no," ++ (decimal (number why) ++ named_text (task_named why))
 
 abbrev pub number_text : Result ℕ Refusal → List ℕ
-number_text (Ok n) = decimal n ++ (10 ∷ [])
+number_text (Ok n) = decimal n ++ codes "\n"
 number_text (Err why) = refused_text why
 
 abbrev pub asked_text : Result Asked Refusal → List ℕ
-asked_text (Ok Hold) = codes "hold" ++ (10 ∷ [])
-asked_text (Ok Wait) = codes "wait" ++ (10 ∷ [])
-asked_text (Ok Back) = codes "back" ++ (10 ∷ [])
+asked_text (Ok Hold) = codes "hold\n"
+asked_text (Ok Wait) = codes "wait\n"
+asked_text (Ok Back) = codes "back\n"
 asked_text (Err why) = refused_text why
 
 -- whether a request holds or waits
 abbrev pub holds_text : Bool → List ℕ
-holds_text true = codes ",hold" ++ (10 ∷ [])
-holds_text false = codes ",wait" ++ (10 ∷ [])
+holds_text true = codes ",hold\n"
+holds_text false = codes ",wait\n"
 
 -- the request that a finish issued: its task `,` `hold` or `wait`, or `-`
 abbrev pub issued_text : Option Issued → List ℕ
-issued_text None = codes "-" ++ (10 ∷ [])
+issued_text None = codes "-\n"
 issued_text (Some i) = decimal i.task ++ holds_text i.holds
 
 abbrev pub finished_text : Result Finished Refusal → List ℕ
-finished_text (Ok f) = decimal f.blocked ++ (44 ∷ issued_text f.issued)
+finished_text (Ok f) = decimal f.blocked ++ (code "," ∷ issued_text f.issued)
 finished_text (Err why) = refused_text why
 
 abbrev pub answer_text : Answered → List ℕ
@@ -75,15 +77,15 @@ answer_text (answered.Tick x) = number_text x
 -- the printed line: the event, a comma and the answer
 abbrev pub line_text : Call → List ℕ
 line_text made = []
-line_text (released t x) = event_then (Release t) (44 ∷ number_text x)
-line_text (asked t r m x) = event_then (Ask t r m) (44 ∷ asked_text x)
-line_text (gave t x) = event_then (Give t) (44 ∷ number_text x)
-line_text (finished t x) = event_then (Finish t) (44 ∷ finished_text x)
-line_text (ticked x) = event_then Tick (44 ∷ number_text x)
+line_text (released t x) = event_then (Release t) (code "," ∷ number_text x)
+line_text (asked t r m x) = event_then (Ask t r m) (code "," ∷ asked_text x)
+line_text (gave t x) = event_then (Give t) (code "," ∷ number_text x)
+line_text (finished t x) = event_then (Finish t) (code "," ∷ finished_text x)
+line_text (ticked x) = event_then Tick (code "," ∷ number_text x)
 
 -- what is printed of a line that is no event: `?,no,` and the number of its refusal
 abbrev pub unreadable_text : Unread → List ℕ
-unreadable_text why = codes "?,no," ++ (decimal (number_of why) ++ (10 ∷ []))
+unreadable_text why = codes "?,no," ++ (decimal (number_of why) ++ codes "\n")
 
 -- the size of a call's event line
 abbrev pub event_size : Call → ℕ

@@ -1,5 +1,8 @@
 -- An event and its line: the five forms.
-use Rattle.std.specs.Prelude.{◌≡◌, ℕ, ◌<◌, cond, List, [], ◌∷◌, ◌++◌, is_some, Some, None, Ok, Err, codes, decimal, Option, Result, ◌==◌, ◌≢◌}
+use Rattle.std.specs.Prelude.{◌≡◌, ℕ, ◌<◌, cond, List, [], ◌∷◌, ◌++◌}
+use Rattle.std.specs.Prelude.{is_some, Some, None, Ok, Err, Option, Result}
+use Rattle.std.specs.Prelude.{codes, decimal, ◌==◌, ◌≢◌}
+use Prim.Native.Char.{code}
 use Rattle.text.specs.Questions.{Question, ask, first_no}
 use Rattle.text.specs.Refusals.{number}
 use Rattle.text.specs.declared.refusal.Refusal.{Refusal}
@@ -10,35 +13,40 @@ use Rattle.event.specs.declared.event.Event.{Event}
 use Rattle.event.specs.declared.event.Event.TheVariants.{Release, Ask, Give, Finish, Tick}
 
 -- the letter of a mode
-abbrev pub mode_letter : Mode → List ℕ
-mode_letter Write = codes "W"
-mode_letter Read = codes "R"
+abbrev pub mode_letter : Mode → ℕ
+mode_letter Write = code "W"
+mode_letter Read = code "R"
+
+-- a number and the comma behind it
+abbrev pub followed : ℕ → List ℕ → List ℕ
+followed n rest = decimal n ++ (code "," ∷ rest)
 
 -- an event as it is written, and what stands behind it
 abbrev pub event_then : Event → List ℕ → List ℕ
 event_then (Release t) rest = codes "N," ++ (decimal t ++ rest)
-event_then (Ask t r m) rest = codes "A," ++ (decimal t ++ (44 ∷ (decimal r ++ (44 ∷ (mode_letter m ++ rest)))))
+event_then (Ask t r m) rest = codes "A," ++ followed t (followed r (mode_letter m ∷ rest))
 event_then (Give t) rest = codes "G," ++ (decimal t ++ rest)
 event_then (Finish t) rest = codes "F," ++ (decimal t ++ rest)
 event_then Tick rest = codes "K" ++ rest
 
--- the line that an event is written as, with its newline (byte 10)
+-- the line that an event is written as, with its newline
 abbrev pub event_text : Event → List ℕ
-event_text e = event_then e (10 ∷ [])
+event_text e = event_then e (codes "\n")
 
 -- what a number makes, where the newline follows it
 abbrev pub last_number : (ℕ → Event) → Option (ℕ × List ℕ) → Option Event
 last_number make None = None
 last_number make (Some p) = cond (is_newline p.1) (Some (make p.0)) None
 
--- a comma, the letter of a mode, and the newline
+-- the mode that a letter is
 abbrev pub mode_of : ℕ → Option Mode
-mode_of b = cond (b == 87) (Some Write) (cond (b == 82) (Some Read) None)
+mode_of b = cond (b == code "W") (Some Write) (cond (b == code "R") (Some Read) None)
 
+-- a comma, the letter of a mode, and the newline
 abbrev pub read_mode : List ℕ → Option Mode
 read_mode [] = None
 read_mode (b ∷ []) = None
-read_mode (b ∷ c ∷ bs) = cond (b == 44) (cond (is_newline bs) (mode_of c) None) None
+read_mode (b ∷ c ∷ bs) = cond (b == code ",") (cond (is_newline bs) (mode_of c) None) None
 
 abbrev pub asks_in : ℕ → ℕ → Option Mode → Option Event
 asks_in t r None = None
@@ -61,7 +69,12 @@ read_ask bs = read_first (read_field bs)
 
 -- the event that a letter and what stands behind it are; the letter decides the form
 abbrev pub read_form : ℕ → List ℕ → Option Event
-read_form b bs = cond (b == 78) (read_one Release bs) (cond (b == 65) (read_ask bs) (cond (b == 71) (read_one Give bs) (cond (b == 70) (read_one Finish bs) (cond (b == 75) (cond (is_newline bs) (Some Tick) None) None))))
+read_form b bs =
+    cond (b == code "N") (read_one Release bs)
+    (cond (b == code "A") (read_ask bs)
+    (cond (b == code "G") (read_one Give bs)
+    (cond (b == code "F") (read_one Finish bs)
+    (cond (b == code "K") (cond (is_newline bs) (Some Tick) None) None))))
 
 -- the event that a line is
 abbrev pub read_event : List ℕ → Option Event

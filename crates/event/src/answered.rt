@@ -5,19 +5,23 @@ use rules::refusal::Refusal;
 /// An event with the controller's answer.
 #[derive(Clone, Copy, Debug, PartialEq, Eq)]
 pub enum Answered {
-    /// The release number.
+    /// A release by a task, with the release number.
     Release(u32, Result<u32, Refusal>),
-    /// Whether the request holds, waits or is held back.
+    /// An ask, with whether the request holds, waits or is held back.
     Ask {
+        /// The task.
         task: u32,
+        /// The resource.
         resource: u32,
+        /// The mode.
         mode: Mode,
+        /// The answer.
         answer: Result<Asked, Refusal>,
     },
-    /// The ticks used.
+    /// A give by a task, with the ticks used.
     Give(u32, Result<u32, Refusal>),
-    /// The blocked ticks, and the request that was issued.
+    /// A finish by a task, with the blocked ticks and the request that was issued.
     Finish(u32, Result<Finished, Refusal>),
-    /// The clock.
+    /// A tick, with the clock.
     Tick(Result<u32, Refusal>),
 }

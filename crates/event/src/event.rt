@@ -7,8 +7,11 @@ pub enum Event {
     Release(u32),
     /// `A,t,r,W` or `A,t,r,R`: task t asks for resource r in a mode.
     Ask {
+        /// The task.
         task: u32,
+        /// The resource.
         resource: u32,
+        /// The mode.
         mode: Mode,
     },
     /// `G,t`: task t gives back what it holds.

@@ -1,13 +1,14 @@
 ghost use Rattle.std.specs.Prelude.{◌≡◌, ◌≤◌, length, OnOk};
 ghost use Rattle.std.specs.Result.{result_ok};
-ghost use Rattle.event.specs.Lines.{mode_of, read_mode, read_ask, read_form, read_event, IsLineOf, ReadsEvent};
+ghost use Rattle.event.specs.Lines.{mode_of, read_mode, read_ask, read_form, read_event};
+ghost use Rattle.event.specs.Lines.{IsLineOf, ReadsEvent};
 
 use crate::event::Event;
 use bank::request::Mode;
 use item::field::{is_newline, read_field, read_last};
 use text::refusal::Refusal;
 
-// The mode that a letter is. No `TryFrom`: a crate may write it for a type of its own alone, and the mode is bank's.
+// The mode that a letter is, if it is one.
 fn letter_mode(letter: u8) -> Option<Mode>
     ensures { result ≡ mode_of letter }
 {
@@ -57,7 +58,7 @@ fn form(letter: u8, rest: &[u8]) -> Option<Event>
     }
 }
 
-// Apart from the public call, so that an edit there is refused by the contract and not at a proof.
+// The event that a line is, by its letter and fields.
 fn parse(line: &[u8]) -> Option<Event>
     ensures { result ≡ read_event line.now }
 {
@@ -66,7 +67,7 @@ fn parse(line: &[u8]) -> Option<Event>
 }
 
 impl Event {
-    /// The event that a line with its newline is, if it has one of the five forms; a line that has none is refused by 21.
+    /// The event that a line with its newline is. A line that has none of the five forms is refused by 21.
     #[tactic(auto, using(crate::proofs::Lines::is_line_of, crate::proofs::Lines::size_of))]
     pub fn read(line: &[u8]) -> Result<Event, Refusal>
         ensures reads { ReadsEvent line.now result }

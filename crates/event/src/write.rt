@@ -169,7 +169,7 @@ fn line(answered: Answered) -> ByteVec<64>
     line
 }
 
-// Apart from the public call, so that an edit there is refused by the contract and not at a proof.
+// Writes the line of an event with its answer.
 fn write_line(answered: Answered, out: &mut [u8], at: usize) -> Result<usize, Refusal>
     ensures writes { Writes out.old at (line_text (call_of answered)) result out.new }
     ensures few { length (line_text (call_of answered)) ≤ 10 * event_size (call_of answered) }
@@ -201,7 +201,6 @@ impl Answered {
     }
 
     /// Writes the printed line at a place, and answers the place behind it.
-    // Memory and place stay apart: a struct of both would promise in each contract and loop that it still lends the same memory.
     pub fn write(self, out: &mut [u8], at: usize) -> Result<usize, Refusal>
         ensures writes { Writes out.old at (line_text (call_of self)) result out.new }
         ensures few { length (line_text (call_of self)) ≤ 10 * event_size (call_of self) }

@@ -9,12 +9,12 @@ use std::cmp::Ordering;
 /// A job, by its release number.
 #[derive(Clone, Copy, Debug, PartialEq, Eq, PartialOrd, Ord)]
 pub struct Job {
+    /// Its release number.
     pub release: u32,
 }
 
 impl Job {
     /// Whether it was released before the other job.
-    // Beside the derived order, to say it by value.
     pub fn precedes(&self, job: &Job) -> bool
         ensures { result ≡ nat_lt self.now.release job.now.release }
     {
@@ -25,13 +25,14 @@ impl Job {
 /// A holder, by the ticks that it has left and then by its task.
 #[derive(Clone, Copy, Debug, PartialEq, Eq, PartialOrd, Ord)]
 pub struct Holder {
+    /// The ticks that it has left.
     pub left: u32,
+    /// Its task.
     pub task: u32,
 }
 
 impl Holder {
     /// Whether it has fewer ticks left than the other holder, or as many and a lower task.
-    // Beside the derived order, to say it by value.
     pub fn precedes(&self, holder: &Holder) -> bool
         ensures { result ≡ (if nat_eq self.now.left holder.now.left then nat_lt self.now.task holder.now.task else nat_lt self.now.left holder.now.left) }
     {

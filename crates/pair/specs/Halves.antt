@@ -1,8 +1,9 @@
 -- Which of two banks a resource of their pair is of.
-use Rattle.std.specs.Prelude.{◌≡◌, ℕ, ◌+◌, ◌<◌, ◌≤◌, min, Ok, Err, Result}
-use Rattle.bank.specs.Questions.{Told}
+use Rattle.std.specs.Prelude.{◌≡◌, ℕ, ◌+◌, ◌<◌, Some, Ok, Err, Result}
+use Rattle.text.specs.Questions.{first_no}
+use Rattle.bank.specs.Questions.{Told, number, resource_questions}
 use Rattle.bank.specs.declared.refusal.Refusal.{Refusal}
-use Rattle.bank.specs.declared.refusal.Refusal.TheVariants.{NoResource}
+use Rattle.pair.specs.Pairs.{pair_told}
 use Rattle.pair.specs.declared.pair.Half.{Half}
 use Rattle.pair.specs.declared.pair.Half.TheVariants.{First, Second}
 
@@ -10,4 +11,4 @@ use Rattle.pair.specs.declared.pair.Half.TheVariants.{First, Second}
 abbrev pub IsHalf : Told → Told → ℕ → Result Half Refusal → Type 0
 IsHalf a b r (Ok (First q)) = (r < 16) × (q < a.resources) × (q ≡ r)
 IsHalf a b r (Ok (Second q)) = (r < 16) × (q < b.resources) × (a.resources + q ≡ r)
-IsHalf a b r (Err why) = (min 16 (a.resources + b.resources) ≤ r) × (why ≡ NoResource)
+IsHalf a b r (Err why) = first_no (resource_questions (pair_told a b) r) ≡ Some (number why)

@@ -11,7 +11,9 @@ use bank::request::{Mode, Request};
 /// Two banks as one: the first's resources, followed by the second's.
 #[derive(Debug, PartialEq, Eq, Drop)]
 pub struct Pair<A: Bank, B: Bank> {
+    /// The bank whose resources come first, with its own numbers.
     pub first: A,
+    /// The bank whose resources follow.
     pub second: B,
 }
 

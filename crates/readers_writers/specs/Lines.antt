@@ -28,7 +28,7 @@ holding_writer e = e.holds && is_write e.mode
 abbrev pub collected : Entry → Bool
 collected e = not e.holds && not (is_write e.mode)
 
--- a read holds if no writer is active, and a write if nobody is
+-- who holds at once: a read unless some writer is in the list, a write only where the list is empty
 abbrev pub admits : List Entry → Mode → Bool
 admits es Read = not (some is_writer es)
 admits es Write = not (some (λ e. true) es)
@@ -57,8 +57,8 @@ abbrev pub writer_holds : List Entry → List Entry
 writer_holds [] = []
 writer_holds (e ∷ es) = cond (is_writer e) (record { party = e.party; mode = e.mode; holds = true } ∷ es) (e ∷ writer_holds es)
 
--- who holds once a holder of this mode is gone: while others hold, nothing changes; after a writer the collected
--- reads hold together, if there are any; else the first writer holds
+-- what the others become when a holder of this mode has left: while one of them holds, they stay as they are. Behind
+-- a writer all reads that were collected go first, in one group; without any, or behind a read, the first writer goes
 abbrev pub passed : Mode → List Entry → List Entry
 passed m es = cond (some is_holder es) es (cond (is_write m && some collected es) (reads_hold es) (writer_holds es))
 

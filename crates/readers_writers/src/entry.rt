@@ -5,9 +5,11 @@ use bank::request::Mode;
 /// An active request of a reader-writer resource.
 #[derive(Debug, Clone, Copy, PartialEq, Eq, Default)]
 pub struct Entry {
+    /// Whose it is.
     pub party: u8,
+    /// Its mode.
     pub mode: Mode,
-    // a flag of its own: party and mode count whether it holds or not
+    /// Whether it holds; if not, it waits.
     pub holds: bool,
 }
 

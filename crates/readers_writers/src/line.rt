@@ -179,7 +179,7 @@ impl Line {
     }
 }
 
-// Lets all reads hold: over a slice, since a loop over the `ArrayVec` leaves goals with no name for its items.
+// Lets all reads hold.
 fn reads_hold(es: &mut [Entry])
     ensures { es.new ≡ reads_hold es.old }
 {

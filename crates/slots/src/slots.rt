@@ -2,7 +2,7 @@ ghost use Rattle.slots.specs.Limits.{Held, Kept, Sized, Seated};
 
 use crate::line::Line;
 
-/// A bank of slot resources: k of each, and who is active there in order of entry. The first k of them hold.
+/// A bank of slot resources: how many slots each has, and who is active there, as they entered.
 #[derive(Clone, Copy, Debug, PartialEq, Eq)]
 pub struct Slots {
     // fixed memory: a line for each of the most resources, of which `count` are in use

@@ -1,5 +1,6 @@
 -- Bytes written into memory that the caller hands in, or appended to a list of bounded size.
-use Rattle.std.specs.Prelude.{◌≡◌, ℕ, ◌+◌, ◌≤◌, List, [], ◌∷◌, ◌++◌, length, take, drop, Some, None, Ok, Err, Result, nat_le}
+use Rattle.std.specs.Prelude.{◌≡◌, ℕ, ◌+◌, ◌≤◌, List, [], ◌∷◌, ◌++◌, length, take, drop}
+use Rattle.std.specs.Prelude.{Some, None, Ok, Err, Result, nat_le}
 use Rattle.text.specs.Questions.{Question, ask, first_no}
 use Rattle.text.specs.Refusals.{number}
 use Rattle.text.specs.declared.refusal.Refusal.{Refusal}
@@ -23,12 +24,15 @@ room_questions n old bytes = ask 23 (nat_le (length old + length bytes) n) ∷ [
 
 -- the bytes stand behind those that were there, or nothing changed
 abbrev pub Appends : ℕ → List ℕ → List ℕ → Result (Unit {0}) Refusal → List ℕ → Type 0
-Appends n old bytes (Ok done) new = (first_no (room_questions n old bytes) ≡ None) × (new ≡ old ++ bytes)
-Appends n old bytes (Err why) new = (first_no (room_questions n old bytes) ≡ Some (number why)) × (new ≡ old)
+Appends n old bytes (Ok done) new =
+    (first_no (room_questions n old bytes) ≡ None) × (new ≡ old ++ bytes)
+Appends n old bytes (Err why) new =
+    (first_no (room_questions n old bytes) ≡ Some (number why)) × (new ≡ old)
 
--- the same where bytes are appended one part after another: an early refusal may leave some of them there
+-- the same where bytes are appended one part after another: a refusal may leave some of them there
 abbrev pub Pushes : ℕ → List ℕ → List ℕ → Result (Unit {0}) Refusal → List ℕ → Type 0
-Pushes n old bytes (Ok done) new = (first_no (room_questions n old bytes) ≡ None) × (new ≡ old ++ bytes)
+Pushes n old bytes (Ok done) new =
+    (first_no (room_questions n old bytes) ≡ None) × (new ≡ old ++ bytes)
 Pushes n old bytes (Err why) new = first_no (room_questions n old bytes) ≡ Some (number why)
 
 -- bytes laid one after another into memory that need not be there:

@@ -1,19 +1,28 @@
 -- Decimal numbers of one to five digits without a leading zero. The digits of a number are std's `decimal`.
-use Rattle.std.specs.Prelude.{◌≡◌, ℕ, ◌+◌, ◌-◌, ◌*◌, ◌<◌, Bool, true, cond, not, ◌&&◌, ◌||◌, List, [], ◌∷◌, ◌++◌, take, drop, Some, None, decimal, fold, Option, ◌==◌, nat_le, nat_lt, slice_index}
+use Rattle.std.specs.Prelude.{◌≡◌, ℕ, ◌+◌, ◌-◌, ◌*◌, ◌<◌, Bool, true, cond, not, ◌&&◌, ◌||◌}
+use Rattle.std.specs.Prelude.{List, [], ◌∷◌, ◌++◌, take, drop, fold, slice_index, decimal}
+use Rattle.std.specs.Prelude.{Some, None, Option, ◌==◌, nat_le, nat_lt}
+use Prim.Native.Char.{code}
 use Rattle.std.specs.Char.{is_ascii_digit}
 use Rattle.std.specs.List.{prefix_len}
 
 -- the number that a row of digits writes
 abbrev pub value_of : List ℕ → ℕ
-value_of ds = fold (λ n c. 10 * n + (c - 48)) 0 ds
+value_of ds = fold (λ n c. 10 * n + (c - code "0")) 0 ds
 
 -- the first n bytes, all digits, are a number: one to five, and a zero in front only alone
 abbrev pub is_number : List ℕ → ℕ → Bool
-is_number xs n = nat_lt 0 n && (nat_le n 5 && (not (slice_index xs 0 == 48) || n == 1))
+is_number xs n = nat_lt 0 n && (nat_le n 5 && (not (slice_index xs 0 == code "0") || n == 1))
+
+-- how many digits stand at the head of a list of bytes
+abbrev pub digits_in : List ℕ → ℕ
+digits_in xs = prefix_len is_ascii_digit xs
 
 -- a number read at the head of a list of bytes, with the rest
 abbrev pub read_number : List ℕ → Option (ℕ × List ℕ)
-read_number xs = cond (is_number xs (prefix_len is_ascii_digit xs)) (Some (value_of (take (prefix_len is_ascii_digit xs) xs), drop (prefix_len is_ascii_digit xs) xs)) None
+read_number xs =
+    cond (is_number xs (digits_in xs))
+    (Some (value_of (take (digits_in xs) xs), drop (digits_in xs) xs)) None
 
 -- a number ends before these bytes
 abbrev pub no_digit : List ℕ → Bool
@@ -27,4 +36,6 @@ IsWritten xs (Some p) = (xs ≡ decimal p.0 ++ p.1) × (p.0 < 100000) × (no_dig
 
 -- reading what was written gives the number and the rest
 abbrev pub ReadsBack : ℕ → Type 0
-ReadsBack n = n < 100000 → (rest : List ℕ) → no_digit rest ≡ true → read_number (decimal n ++ rest) ≡ Some (n, rest)
+ReadsBack n =
+    n < 100000
+    → (rest : List ℕ) → no_digit rest ≡ true → read_number (decimal n ++ rest) ≡ Some (n, rest)

@@ -1,7 +1,8 @@
 -- The number of each refusal of a text: the question that was answered no.
 use Rattle.std.specs.Prelude.{ℕ}
 use Rattle.text.specs.declared.refusal.Refusal.{Refusal}
-use Rattle.text.specs.declared.refusal.Refusal.TheVariants.{Form, Order, Limits, Full, Incomplete, NotEvent, NoEnd, Memory}
+use Rattle.text.specs.declared.refusal.Refusal.TheVariants.{Form, Order, Limits, Full}
+use Rattle.text.specs.declared.refusal.Refusal.TheVariants.{Incomplete, NotEvent, NoEnd, Memory}
 
 abbrev pub number : Refusal → ℕ
 number Form = 16

@@ -1,4 +1,4 @@
-//! What the lines of plans share: decimal numbers, lines, memory handed in, refusals.
+//! What plans and events share: decimal numbers, lines, memory handed in, refusals.
 #![tactic(auto)]
 
 pub mod line;

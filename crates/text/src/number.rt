@@ -46,7 +46,7 @@ fn head_number(s: &[u8]) -> Option<(u32, usize)>
     Some((value(&s[0..n]), n))
 }
 
-// Apart from the public call, so that an edit there is refused by the contract and not at a proof.
+// The number at the head of a text, and the rest of the text, by the digits alone.
 fn split_number(s: &[u8]) -> Option<(u32, &[u8])>
     ensures { read_number s.now ≡ elim result [ None ↦ None | Some p ↦ Some (p.0, p.1.now) ] }
 {
@@ -71,7 +71,7 @@ pub fn number_size(n: u64) -> usize
     Buffer::new().format(n).len()
 }
 
-// Apart from the public call, so that an edit there is refused by the contract and not at a proof.
+// Writes a number's digits at a place.
 fn put_number(out: &mut [u8], at: usize, n: u64) -> Result<usize, Refusal>
     ensures { Writes out.old at (decimal n) result out.new }
 {
@@ -79,7 +79,6 @@ fn put_number(out: &mut [u8], at: usize, n: u64) -> Result<usize, Refusal>
 }
 
 /// Writes a number's digits at a place, and answers the place behind them.
-// Memory and place stay apart, as in `write_bytes`.
 #[tactic(auto, using(crate::proofs::Numbers::reads_back))]
 pub fn write_number(out: &mut [u8], at: usize, n: u64) -> Result<usize, Refusal>
     ensures writes { Writes out.old at (decimal n) result out.new }
@@ -89,7 +88,6 @@ pub fn write_number(out: &mut [u8], at: usize, n: u64) -> Result<usize, Refusal>
 }
 
 /// Writes a number and the bytes behind it at a place, and answers the place behind them.
-// Memory and place stay apart, as in `write_bytes`. Beside `push_field`, which writes to a list: what each refuses is another thing.
 #[tactic(auto, using(crate::proofs::Writes::overlay_more, std::proofs::lemmas::Grind::common_steps))]
 pub fn write_field(out: &mut [u8], at: usize, n: u64, behind: &[u8]) -> Result<usize, Refusal>
     ensures { Writes out.old at (decimal n ++ behind.now) result out.new }
@@ -103,7 +101,7 @@ pub fn write_field(out: &mut [u8], at: usize, n: u64, behind: &[u8]) -> Result<u
     Ok(put_bytes(out, end, behind))
 }
 
-/// Appends a number and the bytes behind it.
+/// Appends a number and the bytes behind it; where there is no room for all of it, nothing changes.
 pub fn push_field<const N: usize>(
     line: &mut ByteVec<N>,
     n: u64,

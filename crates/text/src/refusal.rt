@@ -3,8 +3,8 @@ ghost use Rattle.text.specs.Refusals.{number};
 
 use byte_vec::byte_vec::Full;
 
-/// Why a line or a text is refused, or the memory handed in for one. Each case has one number, that of the question
-/// answered no.
+/// Why a line or a text is refused, or the memory handed in for one. Each case has one number, that of the
+/// question answered no.
 #[derive(Clone, Copy, Debug, PartialEq, Eq)]
 pub enum Refusal {
     /// 16: the line has none of the five forms.
@@ -30,7 +30,7 @@ impl Refusal {
     pub fn number(self) -> u32
         ensures { result ≡ number self }
     {
-        // a match, since the numbers are the format and no derive gives them
+        // the numbers are the format: they are written out here and follow no order of the cases
         match self {
             Refusal::Form => 16,
             Refusal::Order => 17,

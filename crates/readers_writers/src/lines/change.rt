@@ -9,7 +9,7 @@ use bank::refusal::Refusal;
 use bank::request::Mode;
 
 impl ReadersWriters {
-    // What the bank's `enter` does, to which that adds what a bank always keeps, by a lemma.
+    // Adds a request that may enter at the end of its line; tells whether it holds.
     pub(crate) fn enter_line(
         &mut self,
         resource: u32,
@@ -34,7 +34,7 @@ impl ReadersWriters {
         Ok(lines[at].enter(party as u8, mode))
     }
 
-    // What the bank's `leave` does, in the same way.
+    // Removes a holder that may leave.
     pub(crate) fn leave_line(&mut self, resource: u32, party: u32) -> Result<(), Refusal>
         ensures told { told_of self.new ≡ told_of self.old }
         ensures leaves { Leaves (told_of self.old) resource party result (active_of self.old) (active_of self.new) }
