@@ -1,5 +1,6 @@
 pub mod Bytes
 pub mod Fits
+pub mod Fronts
 pub mod Planned
 pub mod Printed
 pub mod SameAnswers

@@ -29,7 +29,7 @@ use Rattle.dry_run.proofs.SameBanks.{SameBanks, same_active, same_made, same_tol
 use Rattle.dry_run.proofs.SameCalls.{call_same}
 
 -- two controllers of one plan that stand the same
-record Same (k j : Controller Banks meaning) : Type 0 where
+pub record Same (k j : Controller Banks meaning) : Type 0 where
   pub set_up : setup k ≡ setup j
   pub stands : snapshot k ≡ snapshot j
   pub banks : SameBanks k.bank j.bank
@@ -47,7 +47,7 @@ stands_same s t tasks lists clock releases =
 abbrev made : Contents → Told → ℕ → ℕ → Setup
 made plan told tasks resources = record { plan = plan; told = told; tasks = tasks; resources = resources }
 
-starts_same : (c : Contents) (k j : Controller Banks meaning) → MadeFrom c k → MadeFrom c j → Same k j
+pub starts_same : (c : Contents) (k j : Controller Banks meaning) → MadeFrom c k → MadeFrom c j → Same k j
 starts_same c k j x y =
     let banks = same_made c k.bank j.bank x.bank_of y.bank_of in
     let told = same_told c k.bank j.bank x.bank_of y.bank_of in
@@ -85,7 +85,7 @@ step_same k j same e x y f g p q a b =
 
 -- THE LINES
 
-snoc_same : (xs ys : List (List ℕ)) (x y : List ℕ) → xs ++ (x ∷ []) ≡ ys ++ (y ∷ []) → (xs ≡ ys) × (x ≡ y)
+pub snoc_same : (xs ys : List (List ℕ)) (x y : List ℕ) → xs ++ (x ∷ []) ≡ ys ++ (y ∷ []) → (xs ≡ ys) × (x ≡ y)
 snoc_same [] [] x y e = (refl, ap (λ l. get_or l 0 []) e)
 snoc_same [] (b ∷ bs) x y e = absurd (omega (arith, length_push bs y, ap length e))
 snoc_same (a ∷ more) [] x y e = absurd (omega (arith, length_push more x, ap length e))
@@ -101,7 +101,7 @@ unreadable_same a b e = cc
 event_read : (line : List ℕ) (event : Event) (why : Refusal) → read_event line ≡ Some event → first_no (event_questions line) ≡ Some (number why) → ⊥
 event_read line event why r u = none-some (number why) (sym (ap (λ o. first_no (ask 21 (is_some o) ∷ [])) r) ∙ u)
 
-replays_same : (c : Contents) (f g : Controller Banks meaning) → Same f g → (ls ms : List (List ℕ)) (h i : History) (k j : Controller Banks meaning) (o q : List ℕ) → Replays f ls h k o → Replays g ms i j q → ls ≡ ms → Same k j × (o ≡ q)
+pub replays_same : (c : Contents) (f g : Controller Banks meaning) → Same f g → (ls ms : List (List ℕ)) (h i : History) (k j : Controller Banks meaning) (o q : List ℕ) → Replays f ls h k o → Replays g ms i j q → ls ≡ ms → Same k j × (o ≡ q)
 replays_same c f g same _ _ _ _ _ _ _ _ none none e = (same, refl)
 replays_same c f g same _ _ _ _ _ _ _ _ none (unreadable {lines} line why r u) e = absurd (omega (arith, length_push lines line, ap length e))
 replays_same c f g same _ _ _ _ _ _ _ _ none (answered {lines} line event call next r u of step) e = absurd (omega (arith, length_push lines line, ap length e))

@@ -235,19 +235,20 @@ end_plan text begun i o p =
     subst (λ v. PrintedBy v i (o ++ refused_text 22 0)) (sym (part_short i p.few p.unended)) (ap (λ xs. xs ++ refused_text 22 0) p.nothing)
 
 module _ (controller : Controller Banks meaning) (kept i o : List ℕ) (r : Replaying controller kept i o) where
-  part : plan_part i ≡ Some r.text
-  part = ap plan_part r.bytes ∙ r.found r.events
+  -- an input that goes on from the plan's empty line with these bytes
+  pub part_of : (input behind : List ℕ) → input ≡ r.text ++ (10 ∷ behind) → plan_part input ≡ Some r.text
+  part_of input behind e = ap plan_part e ∙ r.found behind
 
-  behind : behind_plan i ≡ r.events
-  behind =
-      ap (λ x. drop (length (unwrap_or x []) + 1) i) part
-      ∙ (ap (drop (length r.text + 1)) (r.bytes ∙ sym (append_assoc r.text (10 ∷ []) r.events)) ∙ drop_at (r.text ++ (10 ∷ [])) r.events (length r.text + 1) (length_push r.text 10))
+  pub behind_of : (input behind : List ℕ) → input ≡ r.text ++ (10 ∷ behind) → behind_plan input ≡ behind
+  behind_of input behind e =
+      ap (λ x. drop (length (unwrap_or x []) + 1) input) (part_of input behind e)
+      ∙ (ap (drop (length r.text + 1)) (e ∙ sym (append_assoc r.text (10 ∷ []) behind)) ∙ drop_at (r.text ++ (10 ∷ [])) behind (length r.text + 1) (length_push r.text 10))
 
   lines_all : lines_of (behind_plan i) ≡ r.lines ++ lines_of r.line
-  lines_all = ap lines_of (behind ∙ sym (append-nil r.events)) ∙ (r.cut [] ∙ ap (λ xs. r.lines ++ lines_of xs) (append-nil r.line))
+  lines_all = ap lines_of (behind_of i r.events r.bytes ∙ sym (append-nil r.events)) ∙ (r.cut [] ∙ ap (λ xs. r.lines ++ lines_of xs) (append-nil r.line))
 
   printed_with : (ls : List (List ℕ)) (out : List ℕ) → lines_of (behind_plan i) ≡ ls → Plays r.contents controller ls out → Printed i out
-  printed_with ls out e p = subst (λ v. PrintedBy v i out) (sym (ap part_verdict part ∙ r.accepted)) (controller, subst (λ x. Plays r.contents controller x out) (sym e) p)
+  printed_with ls out e p = subst (λ v. PrintedBy v i out) (sym (ap part_verdict (part_of i r.events r.bytes) ∙ r.accepted)) (controller, subst (λ x. Plays r.contents controller x out) (sym e) p)
 
   -- no line goes on
   pub end_whole : length kept ≡ 0 → Printed i (o ++ [])

@@ -3,5 +3,6 @@
 
 pub mod banks;
 pub mod line;
+pub mod play;
 pub mod refused;
 pub mod run;

@@ -1,0 +1,53 @@
+use Rattle.std.proofs.Common.{◌≡◌, ◌++◌, rules, take, ap, ◌∙◌, subst, append-nil, arith}
+use Rattle.std.proofs.lemmas.Result.{on_ok_weaker, on_err_weaker}
+use Rattle.std.proofs.KnownBytes.{Appends-trans, Consumes-kept, Consumes-trans}
+use Rattle.std.specs.Io.KnownBytes.{Consumes}
+use Rattle.dry_run.proofs.Fronts.{stops, front_all, front_more, finishes, breaks, at_err}
+use Rattle.dry_run.proofs.play.play_pieces.Goals as goal
+
+-- the read failed
+pub returns-in_err-n-clause-err : goal.returns-in_err-n-clause-err
+returns-in_err-n-clause-err g c =
+    let (read, printed, consumed, appended, fed, _, _) = c.loop.invariant in
+    at_err _ (stops _ _ _ _ c.loop.run read printed (Consumes-kept _ _ _ _ consumed c.in_err-n.ensures.err) fed printed (front_all printed) appended)
+
+-- the input is over
+pub returns-then-n-eq0-clause-ok : goal.returns-then-n-eq0-clause-ok
+returns-then-n-eq0-clause-ok g c =
+    let (read, printed, consumed, appended, fed, room, _) = c.loop.invariant in
+    let none = c.if-n-eq0.true in
+    let all = subst (Consumes _ _) (ap (λ k. read ++ take k c.read_piece.new.piece) none ∙ append-nil read) (Consumes-trans _ _ _ _ _ consumed c.in_ok-n.ensures.ok) in
+    let ended = c.in_ok-n.ensures.end none (omega (arith, room, c.requires.0)) in
+    on_ok_weaker c.play_end.result (λ e.
+    let law = e.only read printed fed in
+    finishes _ _ _ _ c.loop.run read printed all fed e.printed law.0 law.1 ended (Appends-trans _ _ _ _ _ appended e.appended)) c.play_end.ensures.ok
+
+pub returns-then-n-eq0-clause-err : goal.returns-then-n-eq0-clause-err
+returns-then-n-eq0-clause-err g c =
+    let (read, printed, consumed, appended, fed, room, _) = c.loop.invariant in
+    let none = c.if-n-eq0.true in
+    let all = subst (Consumes _ _) (ap (λ k. read ++ take k c.read_piece.new.piece) none ∙ append-nil read) (Consumes-trans _ _ _ _ _ consumed c.in_ok-n.ensures.ok) in
+    let ended = c.in_ok-n.ensures.end none (omega (arith, room, c.requires.0)) in
+    on_err_weaker c.play_end.result (λ e.
+    let (written, begins, more) = e.appended in
+    breaks _ _ _ _ c.loop.run read printed all fed e.printed written (λ other p. e.only read printed other fed p) ended begins (Appends-trans _ _ _ _ _ appended more)) c.play_end.ensures.err
+
+-- a write failed
+pub returns-in_err-play_piece-clause-err : goal.returns-in_err-play_piece-clause-err
+returns-in_err-play_piece-clause-err g c =
+    let (read, printed, consumed, appended, fed, _, _) = c.loop.invariant in
+    let e = c.in_err-play_piece.ensures.err in
+    let (written, begins, more) = e.appended in
+    at_err _ (stops _ _ _ _ c.play_piece.new.run _ (printed ++ e.printed) (Consumes-trans _ _ _ _ _ consumed c.in_ok-n.ensures.ok) (e.law read printed fed) (printed ++ written) (front_more printed written e.printed begins) (Appends-trans _ _ _ _ _ appended more))
+
+pub loop-preserved : goal.loop-preserved
+loop-preserved g c =
+    let (read, printed, consumed, appended, fed, room, out) = c.loop.invariant in
+    let e = c.in_ok-play_piece.ensures.ok in
+    (_, printed ++ e.printed, Consumes-trans _ _ _ _ _ consumed c.in_ok-n.ensures.ok, Appends-trans _ _ _ _ _ appended e.appended, e.law read printed fed, search rules, search rules)
+
+-- the turns ran out
+pub returns-clause-err : goal.returns-clause-err
+returns-clause-err g c =
+    let (read, printed, consumed, appended, fed, _, _) = c.loop.invariant in
+    stops _ _ _ _ c.loop.run read printed consumed fed printed (front_all printed) appended

@@ -1,0 +1,58 @@
+-- A whole input from a reader, and what was appended to a writer.
+use Rattle.std.specs.Prelude.{◌≡◌, ℕ, List, ◌++◌, IfSome, Option}
+use Rattle.std.specs.Io.{StartsWith}
+use Rattle.std.specs.Io.KnownBytes.{Appends, Consumes, IsAtEnd}
+use Rattle.dry_run.specs.Fed.{Fed}
+use Rattle.dry_run.specs.Plays.{Printed}
+use Rattle.dry_run.specs.declared.run.DryRun.{DryRun}
+
+-- where the bytes of a reader are known, its input is they
+abbrev pub Has : Option (List ℕ) → List ℕ → Type 0
+Has before input = IfSome before (λ bytes. bytes ≡ input)
+
+-- all that a reader had was read, and what is printed of it was appended to what a writer held. Nothing else can be
+-- printed of it
+pub record Played (before after old new : Option (List ℕ)) : Type 0 where
+  pub input : List ℕ
+  pub has : Has before input
+  pub ended : IsAtEnd after
+  pub printed : List ℕ
+  pub appended : Appends old new printed
+  pub answers : Printed input printed
+  pub only : (other : List ℕ) → Printed input other → other ≡ printed
+
+-- some of what a reader had was read, and what was appended is the front of whatever can be printed of all of it
+pub record PlayedInPart (before after old new : Option (List ℕ)) : Type 0 where
+  pub input : List ℕ
+  pub has : Has before input
+  pub read : List ℕ
+  pub consumed : Consumes before after read
+  pub written : List ℕ
+  pub appended : Appends old new written
+  pub front : (whole : List ℕ) → Printed input whole → StartsWith whole written
+
+-- the front of these bytes was appended
+abbrev pub AppendsFront : Option (List ℕ) → Option (List ℕ) → List ℕ → Type 0
+AppendsFront old new bytes = (written : List ℕ) × StartsWith bytes written × Appends old new written
+
+-- a dry run took a piece of the input, and what is printed of it was appended, or its front
+pub record Goes (d d' : DryRun) (piece : List ℕ) (old new : Option (List ℕ)) : Type 0 where
+  pub printed : List ℕ
+  pub appended : Appends old new printed
+  pub law : (input out : List ℕ) → Fed d input out → Fed d' (input ++ piece) (out ++ printed)
+
+pub record Stops (d d' : DryRun) (piece : List ℕ) (old new : Option (List ℕ)) : Type 0 where
+  pub printed : List ℕ
+  pub appended : AppendsFront old new printed
+  pub law : (input out : List ℕ) → Fed d input out → Fed d' (input ++ piece) (out ++ printed)
+
+-- the input of a dry run is over, and what is then printed was appended, or its front
+pub record Finishes (d : DryRun) (old new : Option (List ℕ)) : Type 0 where
+  pub printed : List ℕ
+  pub appended : Appends old new printed
+  pub only : (input out : List ℕ) → Fed d input out → Printed input (out ++ printed) × ((other : List ℕ) → Printed input other → other ≡ out ++ printed)
+
+pub record Breaks (d : DryRun) (old new : Option (List ℕ)) : Type 0 where
+  pub printed : List ℕ
+  pub appended : AppendsFront old new printed
+  pub only : (input out other : List ℕ) → Fed d input out → Printed input other → other ≡ out ++ printed
