@@ -13,11 +13,11 @@ use Rattle.plan_text.specs.Texts.{Verdict}
 use Rattle.rules.specs.Histories.{History}
 use Rattle.text.specs.Lines.{lines_of}
 use Rattle.dry_run.specs.Banks.{Banks}
-use Rattle.dry_run.specs.Fed.{Planning, Replaying, FedIn, Fed, Laid}
+use Rattle.dry_run.specs.Fed.{FedIn, Fed, Laid}
 use Rattle.dry_run.specs.Made.{meaning}
-use Rattle.dry_run.specs.Played.{Has, Played, PlayedInPart, AppendsFront, Finishes, Breaks}
+use Rattle.dry_run.specs.Played.{Has, Played, PlayedInPart}
 use Rattle.dry_run.specs.Plays.{Replays, none, unreadable, answered, Plays, PrintedBy, Printed}
-use Rattle.dry_run.specs.Said.{plan_part, part_verdict, verdict, behind_plan, plan_told}
+use Rattle.dry_run.specs.Said.{part_verdict, verdict, behind_plan, plan_told}
 use Rattle.dry_run.specs.declared.run.DryRun.{DryRun}
 use Rattle.dry_run.specs.declared.run.Phase.{Phase}
 use Rattle.dry_run.specs.declared.run.Phase.TheVariants.{Plan, Events, Over}

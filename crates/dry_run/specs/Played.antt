@@ -1,7 +1,10 @@
 -- A whole input from a reader, and what was appended to a writer.
-use Rattle.std.specs.Prelude.{◌≡◌, ℕ, List, ◌++◌, IfSome, Option}
+use Rattle.std.specs.Prelude.{◌≡◌, ◌≢◌, ℕ, List, ◌++◌, IfSome, Option}
 use Rattle.std.specs.Io.{StartsWith}
 use Rattle.std.specs.Io.KnownBytes.{Appends, Consumes, IsAtEnd}
+use Rattle.std.specs.IoError.{error_kind}
+use Rattle.std.specs.declared.io.Error.{Error}
+use Rattle.std.specs.declared.io.ErrorKind.TheVariants.{Interrupted}
 use Rattle.dry_run.specs.Fed.{Fed}
 use Rattle.dry_run.specs.Plays.{Printed}
 use Rattle.dry_run.specs.declared.run.DryRun.{DryRun}
@@ -56,3 +59,7 @@ pub record Breaks (d : DryRun) (old new : Option (List ℕ)) : Type 0 where
   pub printed : List ℕ
   pub appended : AppendsFront old new printed
   pub only : (input out other : List ℕ) → Fed d input out → Printed input other → other ≡ out ++ printed
+
+-- an interrupted read or write is tried again, and is no error
+abbrev pub NotInterrupted : Error → Type 0
+NotInterrupted e = error_kind e ≢ Interrupted

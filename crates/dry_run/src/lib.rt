@@ -4,5 +4,8 @@
 pub mod banks;
 pub mod line;
 pub mod play;
+mod read;
 pub mod refused;
 pub mod run;
+mod tries;
+mod write;

@@ -1,58 +1,28 @@
 //! A dry run from any reader to any writer.
-ghost use Rattle.std.specs.Prelude.{◌≡◌, ◌≢◌, ◌<◌, ◌+◌, ◌*◌, ◌≤◌, length, take, IfErr, IfOk, OnErr, OnOk};
-ghost use Rattle.std.specs.Io.{ReadsAtMost};
-ghost use Rattle.std.specs.Io.KnownBytes.{Appends, Consumes, IsAtEnd, Keeps};
-ghost use Rattle.std.specs.IoError.{error_kind};
-ghost use Rattle.dry_run.specs.Played.{AppendsFront, Goes, Stops, Finishes, Breaks, Played, PlayedInPart};
+ghost use Rattle.std.specs.Prelude.{◌≡◌, ◌↔◌, ◌<◌, ◌+◌, ◌*◌, ◌≤◌, length};
+ghost use Rattle.std.specs.Prelude.{IfErr, IsErr, IsTrue, OnErr, OnOk};
+ghost use Rattle.dry_run.specs.Fed.{Ends, Takes};
+ghost use Rattle.dry_run.specs.Played.{Goes, Stops, Finishes, Breaks, Played, PlayedInPart};
+ghost use Rattle.dry_run.specs.Played.{NotInterrupted};
 
+use crate::read::read_piece;
 use crate::run::DryRun;
+use crate::tries::{TRIES, too_many_tries};
+use crate::write::write_front;
 use std::alloc::Global;
 use std::io;
-use std::io::{Error, ErrorKind, Read, Write};
+use std::io::{Read, Write};
 
-// One read, tried again where it was interrupted.
-fn read_piece<R: Read>(reader: &mut R, piece: &mut [u8]) -> io::Result<usize>
-    ensures bound { ReadsAtMost result piece.new }
-    ensures ok { IfOk result (λ n. Consumes (R.remaining reader.old) (R.remaining reader.new) (take n piece.new)) }
-    ensures end { IfOk result (λ n. n ≡ 0 → 0 < length piece.old → IsAtEnd (R.remaining reader.new)) }
-    ensures err { OnErr result (Keeps (R.remaining reader.old) (R.remaining reader.new)) }
-    ensures retried { IfErr result (λ e. error_kind e ≢ ErrorKind.Interrupted) }
+// Takes a piece of the input where there is room for what is printed of it.
+fn take_piece(run: &mut DryRun, piece: &[u8], out: &mut [u8]) -> usize
+    requires { 10 * length piece.now + 1040 ≤ length out.old }
+    ensures takes { Takes run.old run.new piece.now out.old 0 result out.new }
+    ensures within { result ≤ length out.new }
 {
-    for _ in 0..u64::MAX {
-        match reader.read(piece) {
-            Ok(n) => return Ok(n),
-            Err(e) => {
-                if e.kind() != ErrorKind::Interrupted {
-                    return Err(e);
-                }
-            }
-        }
+    match run.feed(piece, out) {
+        Ok(size) => size,
+        Err(_) => unreachable(),
     }
-    Err(Error::from(ErrorKind::TimedOut))
-}
-
-// Writes all of these bytes, or as many of them as are written before an error. An interrupted write is tried again.
-fn write_bytes<W: Write>(writer: &mut W, bytes: &[u8]) -> io::Result<()>
-    ensures ok { OnOk result (Appends (W.contents writer.old) (W.contents writer.new) bytes.now) }
-    ensures err { OnErr result (AppendsFront (W.contents writer.old) (W.contents writer.new) bytes.now) }
-    ensures retried { IfErr result (λ e. error_kind e ≢ ErrorKind.Interrupted) }
-{
-    let mut rest = bytes;
-    for _ in 0..u64::MAX {
-        if rest.is_empty() {
-            return Ok(());
-        }
-        match writer.write(rest) {
-            Ok(0) => return Err(Error::from(ErrorKind::WriteZero)),
-            Ok(n) => rest = &rest[n..],
-            Err(e) => {
-                if e.kind() != ErrorKind::Interrupted {
-                    return Err(e);
-                }
-            }
-        }
-    }
-    Err(Error::from(ErrorKind::TimedOut))
 }
 
 // Takes a piece of the input, and writes what is printed of it.
@@ -63,12 +33,24 @@ fn play_piece<W: Write>(
     writer: &mut W,
 ) -> io::Result<()>
     requires { 10 * length piece.now + 1040 ≤ length out.old }
-    ensures ok { OnOk result (Goes run.old run.new piece.now (W.contents writer.old) (W.contents writer.new)) }
-    ensures err { OnErr result (Stops run.old run.new piece.now (W.contents writer.old) (W.contents writer.new)) }
-    ensures retried { IfErr result (λ e. error_kind e ≢ ErrorKind.Interrupted) }
+    ensures ok { OnOk result
+        (Goes run.old run.new piece.now (W.contents writer.old) (W.contents writer.new)) }
+    ensures err { OnErr result
+        (Stops run.old run.new piece.now (W.contents writer.old) (W.contents writer.new)) }
+    ensures retried { IfErr result NotInterrupted }
 {
-    match run.feed(piece, out) {
-        Ok(size) => write_bytes(writer, &out[..size]),
+    let size = take_piece(run, piece, out);
+    write_front(writer, out, size)
+}
+
+// Ends the input where there is room for what is then printed.
+fn take_end(run: &DryRun, out: &mut [u8]) -> usize
+    requires { 64 ≤ length out.old }
+    ensures ends { Ends run.now out.old result out.new }
+    ensures within { result ≤ length out.new }
+{
+    match run.end(out) {
+        Ok(last) => last,
         Err(_) => unreachable(),
     }
 }
@@ -76,14 +58,30 @@ fn play_piece<W: Write>(
 // Ends the input, and writes what is then printed.
 fn play_end<W: Write>(run: &DryRun, out: &mut [u8], writer: &mut W) -> io::Result<()>
     requires { 64 ≤ length out.old }
-    ensures ok { OnOk result (Finishes run.now (W.contents writer.old) (W.contents writer.new)) }
-    ensures err { OnErr result (Breaks run.now (W.contents writer.old) (W.contents writer.new)) }
-    ensures retried { IfErr result (λ e. error_kind e ≢ ErrorKind.Interrupted) }
+    ensures ok { OnOk result
+        (Finishes run.now (W.contents writer.old) (W.contents writer.new)) }
+    ensures err { OnErr result
+        (Breaks run.now (W.contents writer.old) (W.contents writer.new)) }
+    ensures retried { IfErr result NotInterrupted }
 {
-    match run.end(out) {
-        Ok(size) => write_bytes(writer, &out[..size]),
-        Err(_) => unreachable(),
-    }
+    let size = take_end(run, out);
+    write_front(writer, out, size)
+}
+
+// Whether a read of so many bytes found the end of the input. Apart from the loop, so that an edit here is refused
+// by the contract and not at a proof.
+fn is_end(read: usize) -> bool
+    ensures { IsTrue result ↔ (read ≡ 0) }
+{
+    read == 0
+}
+
+// The tries ran out before the input did.
+fn out_of_tries() -> io::Result<()>
+    ensures failed { IsErr result }
+    ensures retried { IfErr result NotInterrupted }
+{
+    Err(too_many_tries())
 }
 
 // The same in memory that is handed in: room for a piece of the input, and for what is printed of it.
@@ -94,20 +92,22 @@ fn play_pieces<R: Read, W: Write>(
     out: &mut [u8],
 ) -> io::Result<()>
     requires { (0 < length room.old) × (10 * length room.old + 1040 ≤ length out.old) }
-    ensures ok { OnOk result (Played (R.remaining reader.old) (R.remaining reader.new) (W.contents writer.old) (W.contents writer.new)) }
-    ensures err { OnErr result (PlayedInPart (R.remaining reader.old) (R.remaining reader.new) (W.contents writer.old) (W.contents writer.new)) }
-    ensures retried { IfErr result (λ e. error_kind e ≢ ErrorKind.Interrupted) }
+    ensures ok { OnOk result (Played (R.remaining reader.old) (R.remaining reader.new)
+        (W.contents writer.old) (W.contents writer.new)) }
+    ensures err { OnErr result (PlayedInPart (R.remaining reader.old) (R.remaining reader.new)
+        (W.contents writer.old) (W.contents writer.new)) }
+    ensures retried { IfErr result NotInterrupted }
 {
     let mut run = DryRun::new();
     // a `for`, since a `loop` wants a measure, and how long the input is nobody knows
-    for _ in 0..u64::MAX {
+    for _ in 0..TRIES {
         let n = read_piece(reader, room)?;
-        if n == 0 {
+        if is_end(n) {
             return play_end(&run, out, writer);
         }
         play_piece(&mut run, &room[..n], out, writer)?;
     }
-    Err(Error::from(ErrorKind::TimedOut))
+    out_of_tries()
 }
 
 /// Reads an input to its end, and writes what is printed of it, each piece as soon as it is read. It has two buffers
@@ -121,9 +121,11 @@ fn play_pieces<R: Read, W: Write>(
 /// otherwise ends it with its own error. A write that takes nothing is `WriteZero`, want of memory for the buffers
 /// `OutOfMemory`, and a count of 2^64 - 1 tries that runs out `TimedOut`.
 pub fn play<R: Read, W: Write>(alloc: Global, reader: &mut R, writer: &mut W) -> io::Result<()>
-    ensures ok { OnOk result (Played (R.remaining reader.old) (R.remaining reader.new) (W.contents writer.old) (W.contents writer.new)) }
-    ensures err { OnErr result (PlayedInPart (R.remaining reader.old) (R.remaining reader.new) (W.contents writer.old) (W.contents writer.new)) }
-    ensures retried { IfErr result (λ e. error_kind e ≢ ErrorKind.Interrupted) }
+    ensures ok { OnOk result (Played (R.remaining reader.old) (R.remaining reader.new)
+        (W.contents writer.old) (W.contents writer.new)) }
+    ensures err { OnErr result (PlayedInPart (R.remaining reader.old) (R.remaining reader.new)
+        (W.contents writer.old) (W.contents writer.new)) }
+    ensures retried { IfErr result NotInterrupted }
 {
     let mut room = vec![in alloc; 0u8; 65536]?;
     let mut out = vec![in alloc; 0u8; 656400]?;

@@ -1,4 +1,4 @@
-use Rattle.std.proofs.Common.{ap, subst}
+use Rattle.std.proofs.Common.{subst}
 use Rattle.std.proofs.lemmas.Result.{on_ok_weaker, on_err_weaker}
 use Rattle.std.specs.Io.KnownBytes.{Appends}
 use Rattle.dry_run.specs.Played.{AppendsFront}
@@ -7,18 +7,18 @@ use Rattle.dry_run.proofs.play.play_end.Goals as goal
 
 pub returns-clause-ok : goal.returns-clause-ok
 returns-clause-ok g c =
-    let e = c.in-Ok.ensures.ends.1 in
-    on_ok_weaker c.write_bytes.result (λ w. record {
+    let e = c.take_end-size.ensures.ends in
+    on_ok_weaker c.write_front.result (λ w. record {
       printed = e.printed;
       appended = subst (Appends _ _) (laid_front _ _ _ _ e.laid) w;
       only = λ i o fed. (e.law i o fed, λ other p. e.only i o other fed p);
-    }) c.write_bytes.ensures.ok
+    }) c.write_front.ensures.ok
 
 pub returns-clause-err : goal.returns-clause-err
 returns-clause-err g c =
-    let e = c.in-Ok.ensures.ends.1 in
-    on_err_weaker c.write_bytes.result (λ w. record {
+    let e = c.take_end-size.ensures.ends in
+    on_err_weaker c.write_front.result (λ w. record {
       printed = e.printed;
       appended = subst (AppendsFront _ _) (laid_front _ _ _ _ e.laid) w;
       only = e.only;
-    }) c.write_bytes.ensures.err
+    }) c.write_front.ensures.err

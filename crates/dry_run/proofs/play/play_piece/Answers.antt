@@ -1,4 +1,4 @@
-use Rattle.std.proofs.Common.{ap, subst}
+use Rattle.std.proofs.Common.{subst}
 use Rattle.std.proofs.lemmas.Result.{on_ok_weaker, on_err_weaker}
 use Rattle.std.specs.Io.KnownBytes.{Appends}
 use Rattle.dry_run.specs.Played.{AppendsFront}
@@ -7,18 +7,18 @@ use Rattle.dry_run.proofs.play.play_piece.Goals as goal
 
 pub returns-clause-ok : goal.returns-clause-ok
 returns-clause-ok g c =
-    let e = c.in-Ok.ensures.feeds.1 in
-    on_ok_weaker c.write_bytes.result (λ w. record {
+    let e = c.take_piece-size.ensures.takes in
+    on_ok_weaker c.write_front.result (λ w. record {
       printed = e.printed;
       appended = subst (Appends _ _) (laid_front _ _ _ _ e.laid) w;
       law = e.law;
-    }) c.write_bytes.ensures.ok
+    }) c.write_front.ensures.ok
 
 pub returns-clause-err : goal.returns-clause-err
 returns-clause-err g c =
-    let e = c.in-Ok.ensures.feeds.1 in
-    on_err_weaker c.write_bytes.result (λ w. record {
+    let e = c.take_piece-size.ensures.takes in
+    on_err_weaker c.write_front.result (λ w. record {
       printed = e.printed;
       appended = subst (AppendsFront _ _) (laid_front _ _ _ _ e.laid) w;
       law = e.law;
-    }) c.write_bytes.ensures.err
+    }) c.write_front.ensures.err

@@ -1,4 +1,4 @@
-use Rattle.std.proofs.Common.{◌≡◌, ◌++◌, rules, take, ap, ◌∙◌, subst, append-nil, arith}
+use Rattle.std.proofs.Common.{◌++◌, rules, take, ap, ◌∙◌, subst, append-nil, arith}
 use Rattle.std.proofs.lemmas.Result.{on_ok_weaker, on_err_weaker}
 use Rattle.std.proofs.KnownBytes.{Appends-trans, Consumes-kept, Consumes-trans}
 use Rattle.std.specs.Io.KnownBytes.{Consumes}
@@ -12,20 +12,20 @@ returns-in_err-n-clause-err g c =
     at_err _ (stops _ _ _ _ c.loop.run read printed (Consumes-kept _ _ _ _ consumed c.in_err-n.ensures.err) fed printed (front_all printed) appended)
 
 -- the input is over
-pub returns-then-n-eq0-clause-ok : goal.returns-then-n-eq0-clause-ok
-returns-then-n-eq0-clause-ok g c =
+pub returns-then-is_end-clause-ok : goal.returns-then-is_end-clause-ok
+returns-then-is_end-clause-ok g c =
     let (read, printed, consumed, appended, fed, room, _) = c.loop.invariant in
-    let none = c.if-n-eq0.true in
+    let none = c.if-is_end.ensures.0 (search rules) in
     let all = subst (Consumes _ _) (ap (λ k. read ++ take k c.read_piece.new.piece) none ∙ append-nil read) (Consumes-trans _ _ _ _ _ consumed c.in_ok-n.ensures.ok) in
     let ended = c.in_ok-n.ensures.end none (omega (arith, room, c.requires.0)) in
     on_ok_weaker c.play_end.result (λ e.
     let law = e.only read printed fed in
     finishes _ _ _ _ c.loop.run read printed all fed e.printed law.0 law.1 ended (Appends-trans _ _ _ _ _ appended e.appended)) c.play_end.ensures.ok
 
-pub returns-then-n-eq0-clause-err : goal.returns-then-n-eq0-clause-err
-returns-then-n-eq0-clause-err g c =
+pub returns-then-is_end-clause-err : goal.returns-then-is_end-clause-err
+returns-then-is_end-clause-err g c =
     let (read, printed, consumed, appended, fed, room, _) = c.loop.invariant in
-    let none = c.if-n-eq0.true in
+    let none = c.if-is_end.ensures.0 (search rules) in
     let all = subst (Consumes _ _) (ap (λ k. read ++ take k c.read_piece.new.piece) none ∙ append-nil read) (Consumes-trans _ _ _ _ _ consumed c.in_ok-n.ensures.ok) in
     let ended = c.in_ok-n.ensures.end none (omega (arith, room, c.requires.0)) in
     on_err_weaker c.play_end.result (λ e.
@@ -46,8 +46,8 @@ loop-preserved g c =
     let e = c.in_ok-play_piece.ensures.ok in
     (_, printed ++ e.printed, Consumes-trans _ _ _ _ _ consumed c.in_ok-n.ensures.ok, Appends-trans _ _ _ _ _ appended e.appended, e.law read printed fed, search rules, search rules)
 
--- the turns ran out
+-- the tries ran out
 pub returns-clause-err : goal.returns-clause-err
 returns-clause-err g c =
     let (read, printed, consumed, appended, fed, _, _) = c.loop.invariant in
-    stops _ _ _ _ c.loop.run read printed consumed fed printed (front_all printed) appended
+    at_err _ (stops _ _ _ _ c.loop.run read printed consumed fed printed (front_all printed) appended)

@@ -1,8 +1,8 @@
 use Rattle.std.proofs.Common.{◌≡◌, ℕ, ◌-◌, List, ◌++◌, length, take, drop, sym, ap, ◌∙◌, append_assoc, take-append-drop}
 use Rattle.std.proofs.lemmas.List.{take_rest}
 use Rattle.std.proofs.KnownBytes.{Appends-trans, Appends-kept}
-use Rattle.dry_run.proofs.play.write_bytes.Goals.{in-Ok, in-Err+else-ne}
-use Rattle.dry_run.proofs.play.write_bytes.Goals as goal
+use Rattle.dry_run.proofs.write.write_bytes.Goals.{in-Ok, in-Err}
+use Rattle.dry_run.proofs.write.write_bytes.Goals as goal
 
 moves_front : (all done rest : List ℕ) (n : ℕ) → all ≡ done ++ rest → all ≡ (done ++ take n rest) ++ take (length rest - n) (drop n rest)
 moves_front all done rest n e =
@@ -14,5 +14,5 @@ loop-preserved g c =
     let rest = c.loop.rest.now in
     elim c.match-write.branch [
       | in-Ok w ↦ rw w.rest-is (done ++ take w.in-Ok.n rest, moves_front _ done rest w.in-Ok.n split, Appends-trans _ _ _ _ _ appended w.in-Ok.ensures.bytes)
-      | in-Err+else-ne w ↦ rw w.rest-is (done, split, Appends-kept _ _ _ _ appended w.in-Err.ensures.bytes)
+      | in-Err w ↦ rw w.rest-is (done, split, Appends-kept _ _ _ _ appended w.in-Err.ensures.bytes)
     ]

@@ -1,6 +1,6 @@
 use Rattle.std.proofs.Common.{◌≡◌, length}
 use Rattle.std.specs.Io.KnownBytes.{Keeps}
-use Rattle.dry_run.proofs.play.read_piece.Given as goal
+use Rattle.dry_run.proofs.read.read_piece.Given as goal
 
 -- an interrupted read takes nothing
 abbrev pub invariant-loop : goal.invariant-loop

@@ -1,6 +1,6 @@
 use Rattle.std.proofs.Common.{◌≡◌, ℕ, List, ◌++◌}
 use Rattle.std.specs.Io.KnownBytes.{Appends}
-use Rattle.dry_run.proofs.play.write_bytes.Given as goal
+use Rattle.dry_run.proofs.write.write_bytes.Given as goal
 
 -- what is gone from the rest was appended
 abbrev pub invariant-loop : goal.invariant-loop
