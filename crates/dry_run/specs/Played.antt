@@ -13,8 +13,8 @@ use Rattle.dry_run.specs.declared.run.DryRun.{DryRun}
 abbrev pub Has : Option (List ℕ) → List ℕ → Type 0
 Has before input = IfSome before (λ bytes. bytes ≡ input)
 
--- all that a reader had was read, and what is printed of it was appended to what a writer held. Nothing else can be
--- printed of it
+-- all that a reader had was read, and what is printed of it was appended to what a writer held.
+-- Nothing else can be printed of it
 pub record Played (before after old new : Option (List ℕ)) : Type 0 where
   pub input : List ℕ
   pub has : Has before input
@@ -24,7 +24,8 @@ pub record Played (before after old new : Option (List ℕ)) : Type 0 where
   pub answers : Printed input printed
   pub only : (other : List ℕ) → Printed input other → other ≡ printed
 
--- some of what a reader had was read, and what was appended is the front of whatever can be printed of all of it
+-- some of what a reader had was read, and what was appended is the front of whatever can be
+-- printed of all that it had
 pub record PlayedInPart (before after old new : Option (List ℕ)) : Type 0 where
   pub input : List ℕ
   pub has : Has before input
@@ -36,7 +37,8 @@ pub record PlayedInPart (before after old new : Option (List ℕ)) : Type 0 wher
 
 -- the front of these bytes was appended
 abbrev pub AppendsFront : Option (List ℕ) → Option (List ℕ) → List ℕ → Type 0
-AppendsFront old new bytes = (written : List ℕ) × StartsWith bytes written × Appends old new written
+AppendsFront old new bytes =
+    (written : List ℕ) × StartsWith bytes written × Appends old new written
 
 -- a dry run took a piece of the input, and what is printed of it was appended, or its front
 pub record Goes (d d' : DryRun) (piece : List ℕ) (old new : Option (List ℕ)) : Type 0 where
@@ -53,12 +55,15 @@ pub record Stops (d d' : DryRun) (piece : List ℕ) (old new : Option (List ℕ)
 pub record Finishes (d : DryRun) (old new : Option (List ℕ)) : Type 0 where
   pub printed : List ℕ
   pub appended : Appends old new printed
-  pub only : (input out : List ℕ) → Fed d input out → Printed input (out ++ printed) × ((other : List ℕ) → Printed input other → other ≡ out ++ printed)
+  pub answers : (input out : List ℕ) → Fed d input out → Printed input (out ++ printed)
+  pub only : (input out other : List ℕ) → Fed d input out → Printed input other →
+      other ≡ out ++ printed
 
 pub record Breaks (d : DryRun) (old new : Option (List ℕ)) : Type 0 where
   pub printed : List ℕ
   pub appended : AppendsFront old new printed
-  pub only : (input out other : List ℕ) → Fed d input out → Printed input other → other ≡ out ++ printed
+  pub only : (input out other : List ℕ) → Fed d input out → Printed input other →
+      other ≡ out ++ printed
 
 -- an interrupted read or write is tried again, and is no error
 abbrev pub NotInterrupted : Error → Type 0

@@ -68,8 +68,8 @@ fn play_end<W: Write>(run: &DryRun, out: &mut [u8], writer: &mut W) -> io::Resul
     write_front(writer, out, size)
 }
 
-// Whether a read of so many bytes found the end of the input. Apart from the loop, so that an edit here is refused
-// by the contract and not at a proof.
+// Whether a read of so many bytes found the end of the input. Apart from the loop, so that an
+// edit here is refused by the contract and not at a proof.
 fn is_end(read: usize) -> bool
     ensures { IsTrue result ↔ (read ≡ 0) }
 {
@@ -84,7 +84,8 @@ fn out_of_tries() -> io::Result<()>
     Err(too_many_tries())
 }
 
-// The same in memory that is handed in: room for a piece of the input, and for what is printed of it.
+// The same in memory that is handed in: room for a piece of the input, and for what is printed
+// of it.
 fn play_pieces<R: Read, W: Write>(
     reader: &mut R,
     writer: &mut W,
@@ -110,16 +111,17 @@ fn play_pieces<R: Read, W: Write>(
     out_of_tries()
 }
 
-/// Reads an input to its end, and writes what is printed of it, each piece as soon as it is read. It has two buffers
-/// of its own, and does not flush the writer.
+/// Reads an input to its end, and writes what is printed of it, each piece as soon as it is read.
+/// It has two buffers of its own, and does not flush the writer.
 ///
-/// Where it ends well, all that the reader had was read, and what the writer holds more is what is printed of it, and
-/// nothing else could be. Where it ends in an error, what the writer holds more is the front of whatever could be
-/// printed of all that the reader had.
+/// Where it ends well, all that the reader had was read, and what the writer holds more is what is
+/// printed of it, and nothing else could be. Where it ends in an error, what the writer holds more
+/// is the front of whatever could be printed of all that the reader had.
 ///
-/// An interrupted read or write is tried again, so no error is `Interrupted`. The first read or write that fails
-/// otherwise ends it with its own error. A write that takes nothing is `WriteZero`, want of memory for the buffers
-/// `OutOfMemory`, and a count of 2^64 - 1 tries that runs out `TimedOut`.
+/// An interrupted read or write is tried again, so no error is `Interrupted`. The first read or
+/// write that fails otherwise ends it with its own error. A write that takes nothing is
+/// `WriteZero`, want of memory for the buffers `OutOfMemory`, and a count of 2^64 - 1 tries that
+/// runs out `TimedOut`.
 pub fn play<R: Read, W: Write>(alloc: Global, reader: &mut R, writer: &mut W) -> io::Result<()>
     ensures ok { OnOk result (Played (R.remaining reader.old) (R.remaining reader.new)
         (W.contents writer.old) (W.contents writer.new)) }

@@ -8,7 +8,8 @@ use crate::tries::{TRIES, is_interrupted, too_many_tries};
 use std::io;
 use std::io::Read;
 
-// Reads the next bytes of an input, as many as one read gives: none at its end. An interrupted read is tried again.
+// Reads the next bytes of an input, as many as one read gives: none at its end. An interrupted
+// read is tried again.
 pub(crate) fn read_piece<R: Read>(reader: &mut R, piece: &mut [u8]) -> io::Result<usize>
     ensures bound { ReadsAtMost result piece.new }
     ensures ok { IfOk result

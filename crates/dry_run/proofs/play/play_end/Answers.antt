@@ -11,7 +11,8 @@ returns-clause-ok g c =
     on_ok_weaker c.write_front.result (λ w. record {
       printed = e.printed;
       appended = subst (Appends _ _) (laid_front _ _ _ _ e.laid) w;
-      only = λ i o fed. (e.law i o fed, λ other p. e.only i o other fed p);
+      answers = e.law;
+      only = e.only;
     }) c.write_front.ensures.ok
 
 pub returns-clause-err : goal.returns-clause-err

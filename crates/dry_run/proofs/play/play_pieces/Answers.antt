@@ -19,8 +19,7 @@ returns-then-is_end-clause-ok g c =
     let all = subst (Consumes _ _) (ap (λ k. read ++ take k c.read_piece.new.piece) none ∙ append-nil read) (Consumes-trans _ _ _ _ _ consumed c.in_ok-n.ensures.ok) in
     let ended = c.in_ok-n.ensures.end none (omega (arith, room, c.requires.0)) in
     on_ok_weaker c.play_end.result (λ e.
-    let law = e.only read printed fed in
-    finishes _ _ _ _ c.loop.run read printed all fed e.printed law.0 law.1 ended (Appends-trans _ _ _ _ _ appended e.appended)) c.play_end.ensures.ok
+    finishes _ _ _ _ c.loop.run read printed all fed e.printed (e.answers read printed fed) (λ other p. e.only read printed other fed p) ended (Appends-trans _ _ _ _ _ appended e.appended)) c.play_end.ensures.ok
 
 pub returns-then-is_end-clause-err : goal.returns-then-is_end-clause-err
 returns-then-is_end-clause-err g c =
