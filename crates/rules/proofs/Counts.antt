@@ -16,6 +16,16 @@ pub count_split : (p q r : ℕ → Bool) (n : ℕ) → ((x : ℕ) → x < n → 
 count_split p q r zero h = omega arith
 count_split p q r (suc n) h = bits (p n) (q n) (r n) (count_below p n) (count_below q n) (count_below r n) (h n (omega arith)) (count_split p q r n (λ x lt. h x (omega arith)))
 
+bits_join : (a b c : Bool) (k m n : ℕ) → (a ≡ true → (b ≡ false) × (c ≡ true)) → (b ≡ true → c ≡ true) → k + m ≤ n → (cond a 1 0 + k) + (cond b 1 0 + m) ≤ cond c 1 0 + n
+bits_join true b c k m n f g l = let e = f refl in rw (e.0, e.1) (omega arith)
+bits_join false true c k m n f g l = rw (g refl) (omega arith)
+bits_join false false c k m n f g l = omega arith
+
+-- what passes p or q passes r, and nothing passes both
+pub count_join : (p q r : ℕ → Bool) (n : ℕ) → ((x : ℕ) → p x ≡ true → (q x ≡ false) × (r x ≡ true)) → ((x : ℕ) → q x ≡ true → r x ≡ true) → count_below p n + count_below q n ≤ count_below r n
+count_join p q r zero f g = omega arith
+count_join p q r (suc n) f g = bits_join (p n) (q n) (r n) (count_below p n) (count_below q n) (count_below r n) (f n) (g n) (count_join p q r n f g)
+
 -- two tests that agree below n
 pub count_same : (p q : ℕ → Bool) (n : ℕ) → ((x : ℕ) → x < n → p x ≡ q x) → count_below p n ≡ count_below q n
 count_same p q zero h = refl

@@ -24,7 +24,7 @@ use Rattle.rules.proofs.LiftAsk.{asked_stepped}
 use Rattle.rules.proofs.LiftFinish.{finished_stepped}
 use Rattle.rules.proofs.LiftGive.{gave_stepped, ticked_stepped}
 use Rattle.rules.proofs.Places.{first_ready_runs}
-use Rattle.rules.proofs.Promised.{late_named, next_lem, issued_first, few_issued, few_listed, numbers_apart}
+use Rattle.rules.proofs.Promised.{late_named, next_lem, issued_first, few_requests, numbers_apart}
 use Rattle.rules.proofs.Steps.{some_none, has_job}
 use Rattle.rules.proofs.Takes.{bank_takes_lem}
 use Rattle.rules.proofs.Ticks.{held_or_waits}
@@ -95,8 +95,7 @@ module _ (a : Setup) (set : Setting a) (h : History) (i : InvOf a h) where
     waits_bounded = λ t e. (i.tasks t).bounded e;
     issued_first = issued_first a set h i;
     held_back = λ t e. let s = held_back_lem t (words_of a h t) (lists h) e in i.firsts t refl s.1 ∙ s.2;
-    few_issued = few_issued a set h i;
-    few_listed = few_listed a set h i;
+    few_requests = few_requests a set h i;
     numbers_apart = numbers_apart a set h i;
   }
 

@@ -191,11 +191,11 @@ module _ (p : ℕ → Bool) (num : ℕ → ℕ) (k m : ℕ) (apart : (x y : ℕ)
       (count_some (λ u. p u && eqb (num u) n) m)
 
 -- a party has a request in the list
-abbrev listed : List Request → ℕ → Bool
+abbrev pub listed : List Request → ℕ → Bool
 listed xs q = leb 1 (count (λ x. eqb x.party q) xs)
 
 -- a list in which each party is at most once is as long as it has parties
-listed_length : (m : ℕ) (xs : List Request) → ((q : ℕ) → count (λ x. eqb x.party q) xs ≤ 1) → ((q : ℕ) → 1 ≤ count (λ x. eqb x.party q) xs → q < m) → length xs ≤ count_below (listed xs) m
+pub listed_length : (m : ℕ) (xs : List Request) → ((q : ℕ) → count (λ x. eqb x.party q) xs ≤ 1) → ((q : ℕ) → 1 ≤ count (λ x. eqb x.party q) xs → q < m) → length xs ≤ count_below (listed xs) m
 listed_length m [] once under = omega arith
 listed_length m (x ∷ xs) once under =
     let self = eq-eqb x.party x.party refl in
@@ -276,14 +276,4 @@ module _ (a : Setup) (j : Jobs) (n : ℕ) (k : Numbered a j n) (inside : (t : �
         listed_length a.tasks xs once (λ q l. chosen_known q (has q l)),
         count_more (λ q. listed xs q) sel t a.tasks (chosen_known t e) (lt-leb 1 (count (λ x. eqb x.party t) xs) (omega arith)) e
             (λ q l f. has q (leb-true 1 (count (λ x. eqb x.party q) xs) f)),
-      )
-
-  -- and so is a list of them, each listed once
-  pub listed_few : (xs : List Request) → ((q : ℕ) → count (λ x. eqb x.party q) xs ≤ 1) → ((q : ℕ) → 1 ≤ count (λ x. eqb x.party q) xs → sel q ≡ true) → length xs ≤ sum a.plan.clusters
-  listed_few xs once has =
-      omega (
-        arith,
-        seats,
-        listed_length a.tasks xs once (λ q l. chosen_known q (has q l)),
-        count_mono (λ q. listed xs q) sel a.tasks (λ q l f. has q (leb-true 1 (count (λ x. eqb x.party q) xs) f)),
       )

@@ -1,23 +1,25 @@
 -- What a call keeps beyond its answer: who is named late, whose request a finish issues, and that the
 -- bank has no more requests than there are processors.
-use Rattle.std.proofs.Common.{◌≡◌, ℕ, ◌<◌, ◌≤◌, Bool, true, false, not, ◌||◌, length, is_some, Some, None, Ok, Err, Option, unwrap_or, sym, refl, ap, ◌∙◌, subst}
-use Rattle.std.proofs.lemmas.Bool.{and_parts, eqb-true, eq-eqb, not-true, both_ways}
+use Rattle.std.proofs.Common.{◌≡◌, ℕ, zero, suc, ◌<◌, ◌≤◌, Bool, true, false, not, ltb, leb, ◌&&◌, ◌||◌, arith, length, is_some, Some, None, Ok, Err, Option, unwrap_or, sym, refl, ap, ◌∙◌, subst}
+use Rattle.std.proofs.lemmas.Bool.{and_parts, and_from, eqb-true, eq-eqb, ne_eqb, ltb-true, lt-ltb, leb-true, not-true, false≢true, both_ways}
 use Rattle.bank.specs.Meaning.{Lists}
 use Rattle.plan.specs.Contents.{processors}
 use Rattle.rules.specs.Answers.{Event, made, released, asked, gave, finished, ticked, Answered, IssuesNext}
 use Rattle.rules.specs.Histories.{History, lists, releases, job, wanted, issued, held_back, jobs_after, after, is_for}
 use Rattle.rules.specs.Holders.{NamesLate}
 use Rattle.rules.specs.Jobs.{Setup, count_below, first, next_issued}
-use Rattle.rules.specs.Promises.{LateNamed, NextIssued, IssuesFirst}
+use Rattle.rules.specs.Promises.{is_at, LateNamed, NextIssued, IssuesFirst, requests_to}
 use Rattle.rules.specs.declared.answer.Finished.{Finished}
 use Rattle.rules.specs.declared.answer.Issued.{Issued}
 use Rattle.rules.specs.declared.task.Wanted.{Wanted}
 use Rattle.rules.proofs.Accepted.{accepted_finish, accepted_tick}
-use Rattle.rules.proofs.Gives.{listed_at, listed_once_lem}
+use Rattle.rules.proofs.Counts.{count_join, count_mono}
+use Rattle.rules.proofs.Entries.{listed}
+use Rattle.rules.proofs.Gives.{At, exists, listed_at, listed_once_lem}
 use Rattle.rules.proofs.Holders.{names_late}
 use Rattle.rules.proofs.Lift.{Setting, InvOf, added, going}
 use Rattle.rules.proofs.LiftFinish.{Next, next_known}
-use Rattle.rules.proofs.Places.{seats, listed_few}
+use Rattle.rules.proofs.Places.{seats, listed_length}
 use Rattle.rules.proofs.Words.{words_of, nobody, numbered}
 
 -- the lowest late task is named
@@ -80,14 +82,65 @@ module _ (a : Setup) (set : Setting a) (h : History) (i : InvOf a h) where
       some None f = absurd (both_ways (issued t h) (f refl) e)
       some (Some w) f = refl
 
-  pub few_issued : count_below (λ t. issued t h) a.tasks ≤ processors a.plan
+  few_issued : count_below (λ t. issued t h) a.tasks ≤ processors a.plan
   few_issued = seats a (jobs_after h) (releases h) (numbered a nobody (words_of a h) (lists h) (releases h) i) set.clusters (λ t. issued t h) issued_first
 
-  pub few_listed : (r : ℕ) → r < a.resources → length (lists h r) ≤ processors a.plan
-  few_listed r lr =
-      listed_few a (jobs_after h) (releases h) (numbered a nobody (words_of a h) (lists h) (releases h) i) set.clusters (λ t. issued t h) issued_first (lists h r)
-      (listed_once_lem a set.known nobody (words_of a h) (lists h) (releases h) i r lr)
-      (λ q l. (listed_at a (releases h) (lists h) q (words_of a h q) (i.tasks q) r lr l).issued)
+  -- a task has an issued request at resource r, or at one below n
+  abbrev at : ℕ → ℕ → Bool
+  at r t = issued t h && is_at r (wanted t h)
+
+  abbrev below : ℕ → Option Wanted → Bool
+  below n None = false
+  below n (Some w) = ltb w.resource n
+
+  abbrev under : ℕ → ℕ → Bool
+  under n t = issued t h && below n (wanted t h)
+
+  -- each request of a list is a task's
+  listed_few : (r : ℕ) → r < a.resources → length (lists h r) ≤ count_below (at r) a.tasks
+  listed_few r lr =
+      let one = listed_once_lem a set.known nobody (words_of a h) (lists h) (releases h) i r lr in
+      let of : (q : ℕ) → 1 ≤ listed q (lists h r) → At (words_of a h q) r = λ q l. listed_at a (releases h) (lists h) q (words_of a h q) (i.tasks q) r lr l in
+      omega (
+        arith,
+        listed_length a.tasks (lists h r) one (λ q l. exists a set.known nobody (words_of a h) (lists h) (releases h) i q r (of q l)),
+        count_mono (λ q. leb 1 (listed q (lists h r))) (at r) a.tasks (λ q l e. at_from q r (of q (leb-true 1 (listed q (lists h r)) e))),
+      )
+    where
+      at_from : (q r : ℕ) → At (words_of a h q) r → at r q ≡ true
+      at_from q r x = and_from (issued q h) (is_at r (wanted q h)) x.issued (ap (is_at r) x.is ∙ eq-eqb x.wanted.resource r x.there)
+
+  -- at one resource more
+  next_under : (n t : ℕ) → (under n t ≡ true → (at n t ≡ false) × (under (suc n) t ≡ true)) × (at n t ≡ true → under (suc n) t ≡ true)
+  next_under n t = go (issued t h) (wanted t h)
+    where
+      go : (b : Bool) (o : Option Wanted) → ((b && below n o) ≡ true → ((b && is_at n o) ≡ false) × ((b && below (suc n) o) ≡ true)) × ((b && is_at n o) ≡ true → (b && below (suc n) o) ≡ true)
+      go false o = (λ e. absurd (false≢true e), λ e. absurd (false≢true e))
+      go true None = (λ e. absurd (false≢true e), λ e. absurd (false≢true e))
+      go true (Some w) = (
+        λ e. let l = ltb-true w.resource n e in (ne_eqb w.resource n (λ z. omega arith), lt-ltb w.resource (suc n) (omega arith)),
+        λ e. let z = eqb-true w.resource n e in lt-ltb w.resource (suc n) (omega arith),
+      )
+
+  requests_under : (n : ℕ) → n ≤ a.resources → requests_to (lists h) n ≤ count_below (under n) a.tasks
+  requests_under zero le = omega arith
+  requests_under (suc n) le =
+      omega (
+        arith,
+        requests_under n (omega arith),
+        listed_few n (omega arith),
+        count_join (under n) (at n) (under (suc n)) a.tasks (λ t. (next_under n t).0) (λ t. (next_under n t).1),
+      )
+
+  -- all requests are issued ones, of as many tasks
+  pub few_requests : requests_to (lists h) a.resources ≤ processors a.plan
+  few_requests =
+      omega (
+        arith,
+        requests_under a.resources (omega arith),
+        count_mono (under a.resources) (λ t. issued t h) a.tasks (λ t l e. (and_parts (issued t h) (below a.resources (wanted t h)) e).0),
+        few_issued,
+      )
 
   pub numbers_apart : (t u n : ℕ) → job t h ≡ Some n → job u h ≡ Some n → t ≡ u
   numbers_apart t u n e f = i.apart t u (ap is_some e) (ap is_some f) (ap (λ (o : Option ℕ). unwrap_or o 0) (e ∙ sym f))

@@ -47,7 +47,9 @@ module _ (a : Setup) (s : Snapshot) where
   IssuesNext None None new = new ≡ s.lists
   IssuesNext None (Some i) new = ⊥
   IssuesNext (Some u) None new = ⊥
-  IssuesNext (Some u) (Some i) new = (i.task ≡ u) × Issues u (resource_of u) (wanted_of (s.tasks u).state).mode i.holds new
+  IssuesNext (Some u) (Some i) new =
+      (i.task ≡ u)
+      × Issues u (resource_of u) (wanted_of (s.tasks u).state).mode i.holds new
 
   abbrev pub next_questions : Option ℕ → List Question
   next_questions None = []
@@ -57,13 +59,36 @@ module _ (a : Setup) (s : Snapshot) where
   -- not at all
   abbrev pub Answered : Event → Lists → Type 0
   Answered made new = ⊥
-  Answered (released t (Ok n)) new = (first_no (release_questions a s t) ≡ None) × (n ≡ s.releases) × (new ≡ s.lists)
+  Answered (released t (Ok n)) new =
+      (first_no (release_questions a s t) ≡ None)
+      × (n ≡ s.releases)
+      × (new ≡ s.lists)
   Answered (released t (Err why)) new = Refused (release_questions a s t) [] why × (new ≡ s.lists)
   Answered (asked t r m (Ok x)) new = (first_no (ask_questions a s t r m) ≡ None) × Asks t r m x new
-  Answered (asked t r m (Err why)) new = Refused (ask_questions a s t r m) (cond (first a (jobs_in s) t) (issue_questions t r m) []) why × (new ≡ s.lists)
-  Answered (gave t (Ok n)) new = (first_no (give_questions a s t) ≡ None) × (n ≡ (s.tasks t).used) × Leaves a.told (resource_of t) t (Ok tt) s.lists new
-  Answered (gave t (Err why)) new = Refused (give_questions a s t) (leave_questions a.told (resource_of t) t (s.lists (resource_of t))) why × (new ≡ s.lists)
-  Answered (finished t (Ok f)) new = (first_no (finish_questions a s t) ≡ None) × (f.blocked ≡ (s.tasks t).blocked) × IssuesNext (next_issued a s t) f.issued new
-  Answered (finished t (Err why)) new = Refused (finish_questions a s t) (next_questions (next_issued a s t)) why × (new ≡ s.lists)
-  Answered (ticked (Ok n)) new = (first_no (tick_questions a s) ≡ None) × (n ≡ s.clock + 1) × (new ≡ s.lists)
-  Answered (ticked (Err why)) new = Refused (tick_questions a s) [] why × (task_named why ≡ late_task a s) × (new ≡ s.lists)
+  Answered (asked t r m (Err why)) new =
+      Refused (ask_questions a s t r m)
+      (cond (first a (jobs_in s) t) (issue_questions t r m) []) why
+      × (new ≡ s.lists)
+  Answered (gave t (Ok n)) new =
+      (first_no (give_questions a s t) ≡ None)
+      × (n ≡ (s.tasks t).used)
+      × Leaves a.told (resource_of t) t (Ok tt) s.lists new
+  Answered (gave t (Err why)) new =
+      Refused (give_questions a s t)
+      (leave_questions a.told (resource_of t) t (s.lists (resource_of t))) why
+      × (new ≡ s.lists)
+  Answered (finished t (Ok f)) new =
+      (first_no (finish_questions a s t) ≡ None)
+      × (f.blocked ≡ (s.tasks t).blocked)
+      × IssuesNext (next_issued a s t) f.issued new
+  Answered (finished t (Err why)) new =
+      Refused (finish_questions a s t) (next_questions (next_issued a s t)) why
+      × (new ≡ s.lists)
+  Answered (ticked (Ok n)) new =
+      (first_no (tick_questions a s) ≡ None)
+      × (n ≡ s.clock + 1)
+      × (new ≡ s.lists)
+  Answered (ticked (Err why)) new =
+      Refused (tick_questions a s) [] why
+      × (task_named why ≡ late_task a s)
+      × (new ≡ s.lists)

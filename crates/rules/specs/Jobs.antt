@@ -53,7 +53,10 @@ module _ (a : Setup) (j : Jobs) where
 
   -- how many jobs of t's cluster that pass a test have smaller release numbers
   abbrev pub before : (ℕ → Bool) → ℕ → ℕ
-  before test t = count_below (λ u. test u && (cluster_of a u == cluster_of a t && nat_lt (j.number u) (j.number t))) a.tasks
+  before test t =
+      count_below
+      (λ u. test u && (cluster_of a u == cluster_of a t && nat_lt (j.number u) (j.number t)))
+      a.tasks
 
   -- fewer ready jobs come before it than its cluster has processors
   abbrev pub runs : ℕ → Bool
@@ -73,11 +76,17 @@ lesser value (Some x) y = cond (nat_lt (value y) (value x)) y x
 
 abbrev pub least_below : (ℕ → Bool) → (ℕ → ℕ) → ℕ → Option ℕ
 least_below test value zero = None
-least_below test value (suc n) = cond (test n) (Some (lesser value (least_below test value n) n)) (least_below test value n)
+least_below test value (suc n) =
+    cond (test n) (Some (lesser value (least_below test value n) n)) (least_below test value n)
 
 -- the job of a task is ended
 abbrev pub ended : Snapshot → ℕ → Snapshot
-ended s t = record { tasks = λ q. cond (t == q) idle_task (s.tasks q); lists = s.lists; clock = s.clock; releases = s.releases }
+ended s t = record {
+  tasks = λ q. cond (t == q) idle_task (s.tasks q);
+  lists = s.lists;
+  clock = s.clock;
+  releases = s.releases;
+}
 
 abbrev pub if_first : Setup → Jobs → Option ℕ → Option ℕ
 if_first a j None = None
@@ -86,4 +95,9 @@ if_first a j (Some u) = cond (first a j u) (Some u) None
 -- the task whose request is issued when the job of t ends: the earliest held-back job of the
 -- cluster, if it is then among the first
 abbrev pub next_issued : Setup → Snapshot → ℕ → Option ℕ
-next_issued a s t = if_first a (jobs_in (ended s t)) (least_below (λ u. is_held_back ((ended s t).tasks u).state && cluster_of a u == cluster_of a t) (λ u. ((ended s t).tasks u).release) a.tasks)
+next_issued a s t =
+    if_first a (jobs_in (ended s t))
+    (least_below
+    (λ u. is_held_back ((ended s t).tasks u).state && cluster_of a u == cluster_of a t)
+    (λ u. ((ended s t).tasks u).release)
+    a.tasks)

@@ -34,7 +34,8 @@ let_in r xs t k = let_in_state r (is_held (request_of t xs)) k.state k
 -- the request that a finish issues
 abbrev pub issued_task : Option Issued → ℕ → Task → Task
 issued_task None t k = k
-issued_task (Some i) t k = cond (i.task == t) (in_state (issued_state i.holds (wanted_of k.state)) k) k
+issued_task (Some i) t k =
+    cond (i.task == t) (in_state (issued_state i.holds (wanted_of k.state)) k) k
 
 -- one tick more of use for a holder; one tick more for a job that waits, which is a job that is
 -- blocked
@@ -42,8 +43,10 @@ abbrev pub ticked_state : State → Task → Task
 ticked_state Idle k = k
 ticked_state Going k = k
 ticked_state (HeldBack w) k = k
-ticked_state (Waiting w) k = record { state = k.state; release = k.release; used = k.used; blocked = k.blocked + 1 }
-ticked_state (Holding w) k = record { state = k.state; release = k.release; used = k.used + 1; blocked = k.blocked }
+ticked_state (Waiting w) k =
+    record { state = k.state; release = k.release; used = k.used; blocked = k.blocked + 1 }
+ticked_state (Holding w) k =
+    record { state = k.state; release = k.release; used = k.used + 1; blocked = k.blocked }
 
 abbrev pub ticked_task : Task → Task
 ticked_task k = ticked_state k.state k
@@ -53,11 +56,19 @@ abbrev pub moved_task : Snapshot → Event → Lists → ℕ → Task
 moved_task s made new q = s.tasks q
 moved_task s (released t (Ok n)) new q = cond (t == q) (released_task n) (s.tasks q)
 moved_task s (released t (Err why)) new q = s.tasks q
-moved_task s (asked t r m (Ok x)) new q = cond (t == q) (in_state (asked_state x (record { resource = r; mode = m })) (s.tasks q)) (s.tasks q)
+moved_task s (asked t r m (Ok x)) new q =
+    cond (t == q)
+    (in_state (asked_state x (record { resource = r; mode = m })) (s.tasks q))
+    (s.tasks q)
 moved_task s (asked t r m (Err why)) new q = s.tasks q
-moved_task s (gave t (Ok n)) new q = let_in (wanted_of (s.tasks t).state).resource (new (wanted_of (s.tasks t).state).resource) q (cond (t == q) (in_state Going (s.tasks q)) (s.tasks q))
+moved_task s (gave t (Ok n)) new q =
+    let_in (wanted_of (s.tasks t).state).resource
+    (new (wanted_of (s.tasks t).state).resource)
+    q
+    (cond (t == q) (in_state Going (s.tasks q)) (s.tasks q))
 moved_task s (gave t (Err why)) new q = s.tasks q
-moved_task s (finished t (Ok f)) new q = issued_task f.issued q (cond (t == q) idle_task (s.tasks q))
+moved_task s (finished t (Ok f)) new q =
+    issued_task f.issued q (cond (t == q) idle_task (s.tasks q))
 moved_task s (finished t (Err why)) new q = s.tasks q
 moved_task s (ticked (Ok n)) new q = ticked_task (s.tasks q)
 moved_task s (ticked (Err why)) new q = s.tasks q

@@ -1,5 +1,5 @@
 -- What holds after every call of every run, over any bank, by the words of a history alone.
-use Rattle.std.specs.Prelude.{◌≡◌, ℕ, ◌<◌, ◌≤◌, Bool, true, false, cond, not, ◌&&◌, [], ◌∷◌, length, Some, None, Ok, Err, Option, Result, ◌==◌, nat_eq}
+use Rattle.std.specs.Prelude.{◌≡◌, ℕ, zero, suc, ◌+◌, ◌<◌, ◌≤◌, Bool, true, false, cond, not, ◌&&◌, [], ◌∷◌, length, Some, None, Ok, Err, Option, Result, ◌==◌, nat_eq}
 use Rattle.std.specs.List.{AllByRecursion}
 use Rattle.bank.specs.Lists.{count, holds_write, holds_read}
 use Rattle.bank.specs.Meaning.{Lists}
@@ -8,7 +8,7 @@ use Rattle.plan.specs.Contents.{length_at, processors}
 use Rattle.rules.specs.Answers.{Event, made, released, asked, gave, finished, ticked, Answered}
 use Rattle.rules.specs.Histories.{Moment, History, ends, lists, job, wanted, issued, holding, waiting, held_back, state, jobs_after, used, waited, job_waited, blocked_ticks_of, after}
 use Rattle.rules.specs.Holders.{TickNames}
-use Rattle.rules.specs.Jobs.{Setup, Jobs, count_below, runs, first}
+use Rattle.rules.specs.Jobs.{Setup, Jobs, runs, first}
 use Rattle.rules.specs.Limits.{wait_limit}
 use Rattle.rules.specs.Refusals.{from_bank}
 use Rattle.rules.specs.States.{is_held_back}
@@ -40,6 +40,11 @@ abbrev pub WithinLimit : Setup → ℕ → Option Wanted → Type 0
 WithinLimit a n None = ⊥
 WithinLimit a n (Some w) = n ≤ wait_limit a.told a.plan w.resource w.mode
 
+-- how many requests the first n resources have together
+abbrev pub requests_to : Lists → ℕ → ℕ
+requests_to ls zero = 0
+requests_to ls (suc n) = requests_to ls n + length (ls n)
+
 -- What holds after a history.
 pub record Kept (a : Setup) (h : History) : Type 0 where
   -- Every request is accounted for: one that is issued and not given back holds or waits, and not
@@ -62,9 +67,8 @@ pub record Kept (a : Setup) (h : History) : Type 0 where
   -- A request is issued while its job is among the first, and held back while it is not.
   pub issued_first : (t : ℕ) → issued t h ≡ true → first a (jobs_after h) t ≡ true
   pub held_back : (t : ℕ) → is_held_back (state t h) ≡ true → first a (jobs_after h) t ≡ false
-  -- So the bank never has more requests than there are processors, at all its resources or at one.
-  pub few_issued : count_below (λ t. issued t h) a.tasks ≤ processors a.plan
-  pub few_listed : (r : ℕ) → r < a.resources → length (lists h r) ≤ processors a.plan
+  -- The bank has no more requests than there are processors.
+  pub few_requests : requests_to (lists h) a.resources ≤ processors a.plan
   -- No two unfinished jobs have the same release number.
   pub numbers_apart : (t u n : ℕ) → job t h ≡ Some n → job u h ≡ Some n → t ≡ u
 

@@ -12,14 +12,26 @@ use Rattle.rules.specs.declared.task.State.{State}
 use Rattle.rules.specs.declared.task.State.TheVariants.{Idle, Going, HeldBack, Waiting, Holding}
 
 abbrev pub release_questions : Setup → Snapshot → ℕ → List Question
-release_questions a s t = ask 1 (nat_lt t a.tasks) ∷ (ask 5 (is_idle (s.tasks t).state) ∷ (ask 6 (nat_lt s.releases 100000000) ∷ []))
+release_questions a s t =
+    ask 1 (nat_lt t a.tasks)
+    ∷ (ask 5 (is_idle (s.tasks t).state)
+    ∷ (ask 6 (nat_lt s.releases 100000000)
+    ∷ []))
 
 -- the job runs and holds nothing
 abbrev pub work_questions : Setup → Snapshot → ℕ → List Question
-work_questions a s t = ask 7 (runs a (jobs_in s) t) ∷ (ask 8 (not (is_holding (s.tasks t).state)) ∷ [])
+work_questions a s t =
+    ask 7 (runs a (jobs_in s) t)
+    ∷ (ask 8 (not (is_holding (s.tasks t).state))
+    ∷ [])
 
 abbrev pub ask_questions : Setup → Snapshot → ℕ → ℕ → Mode → List Question
-ask_questions a s t r m = ask 1 (nat_lt t a.tasks) ∷ (ask 2 (nat_lt r a.resources) ∷ (ask 3 (knows a.told r m) ∷ (ask 4 (is_some (length_at a.plan t r)) ∷ work_questions a s t)))
+ask_questions a s t r m =
+    ask 1 (nat_lt t a.tasks)
+    ∷ (ask 2 (nat_lt r a.resources)
+    ∷ (ask 3 (knows a.told r m)
+    ∷ (ask 4 (is_some (length_at a.plan t r))
+    ∷ work_questions a s t)))
 
 abbrev pub give_questions : Setup → Snapshot → ℕ → List Question
 give_questions a s t = ask 1 (nat_lt t a.tasks) ∷ (ask 9 (is_holding (s.tasks t).state) ∷ [])
@@ -45,13 +57,17 @@ late a s t = late_in a t (s.tasks t).used (s.tasks t).state
 -- the lowest of the numbers below n that passes a test
 abbrev pub lowest_below : (ℕ → Bool) → ℕ → Option ℕ
 lowest_below test zero = None
-lowest_below test (suc n) = cond (is_some (lowest_below test n)) (lowest_below test n) (cond (test n) (Some n) None)
+lowest_below test (suc n) =
+    cond (is_some (lowest_below test n)) (lowest_below test n) (cond (test n) (Some n) None)
 
 abbrev pub late_task : Setup → Snapshot → Option ℕ
 late_task a s = lowest_below (late a s) a.tasks
 
 abbrev pub tick_questions : Setup → Snapshot → List Question
-tick_questions a s = ask 10 (not (is_some (late_task a s))) ∷ (ask 11 (nat_lt s.clock 100000000) ∷ [])
+tick_questions a s =
+    ask 10 (not (is_some (late_task a s)))
+    ∷ (ask 11 (nat_lt s.clock 100000000)
+    ∷ [])
 
 abbrev pub limit_questions : Setup → ℕ → Mode → List Question
 limit_questions a r m = ask 2 (nat_lt r a.resources) ∷ (ask 3 (knows a.told r m) ∷ [])
@@ -68,7 +84,10 @@ abbrev pub reads_in : Contents → ℕ → Bool
 reads_in c r = not (nat_lt r (length c.slots))
 
 abbrev pub fits_at : Contents → Told → Lists → ℕ → Bool
-fits_at c t lists r = t.slots r == slots_in c r && (equal_bool (t.reads r) (reads_in c r) && length (lists r) == 0)
+fits_at c t lists r =
+    t.slots r == slots_in c r
+    && (equal_bool (t.reads r) (reads_in c r)
+    && length (lists r) == 0)
 
 abbrev pub all_below : (ℕ → Bool) → ℕ → Bool
 all_below test zero = true
@@ -76,7 +95,10 @@ all_below test (suc n) = all_below test n && test n
 
 -- whether a bank fits a plan, resource by resource
 abbrev pub fits : Contents → Told → Lists → Bool
-fits c t lists = t.resources == resource_count c && (t.seats == processors c && all_below (fits_at c t lists) (resource_count c))
+fits c t lists =
+    t.resources == resource_count c
+    && (t.seats == processors c
+    && all_below (fits_at c t lists) (resource_count c))
 
 abbrev pub fit_questions : Contents → Told → Lists → List Question
 fit_questions c t lists = ask 24 (fits c t lists) ∷ []

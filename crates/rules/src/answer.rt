@@ -9,14 +9,16 @@ pub enum Asked {
     Back,
 }
 
-/// A request that a finish issued: its task, and whether it holds. Both are the answer; neither says whether the other counts.
+/// A request that a finish issued: its task, and whether it holds. Both are the answer; neither
+/// says whether the other counts.
 #[derive(Clone, Copy, Debug, PartialEq, Eq)]
 pub struct Issued {
     pub task: u32,
     pub holds: bool,
 }
 
-/// What a finish is answered: the ticks on which the job was blocked, and the request that was issued thereby.
+/// What a finish is answered: the ticks on which the job was blocked, and the request that was
+/// issued thereby.
 #[derive(Clone, Copy, Debug, PartialEq, Eq)]
 pub struct Finished {
     pub blocked: u32,

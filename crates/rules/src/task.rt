@@ -22,8 +22,8 @@ pub enum State {
     Holding(Wanted),
 }
 
-/// The record of a task: the release number of its unfinished job, the ticks for which its request has held, and the
-/// ticks on which its job was blocked.
+/// The record of a task: the release number of its unfinished job, the ticks for which its request
+/// has held, and the ticks on which its job was blocked.
 #[derive(Clone, Copy, Debug, PartialEq, Eq)]
 pub struct Task {
     pub state: State,
