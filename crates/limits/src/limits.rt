@@ -19,7 +19,8 @@ use text::refusal::Refusal;
 fn wait_limit<B: Bank>(plan: &Plan, bank: &B, resource: u32, mode: Mode) -> Option<u64>
     requires { resource < (B.Bank.told bank.now).resources }
     ensures few { IfSome result (λ n. n < 2 ^ 64) }
-    ensures value { result ≡ cond (knows (B.Bank.told bank.now) resource mode) (Some (wait_limit (B.Bank.told bank.now) (plan_contents plan.now) resource mode)) None }
+    ensures value { result ≡ cond (knows (B.Bank.told bank.now) resource mode)
+        (Some (wait_limit (B.Bank.told bank.now) (plan_contents plan.now) resource mode)) None }
 {
     let turns = bank.turn_limit(resource, mode).ok()?;
     // a bank may have a resource that the plan has not: no length is declared for it
@@ -31,10 +32,11 @@ fn wait_limit<B: Bank>(plan: &Plan, bank: &B, resource: u32, mode: Mode) -> Opti
 #[tactic(auto, using(crate::proofs::Sizes::line_size))]
 fn push_resource<B: Bank>(text: &mut ByteVec<1040>, plan: &Plan, bank: &B, resource: u32)
     requires { (resource < (B.Bank.told bank.now).resources) × (length text.old + 65 ≤ 1040) }
-    ensures text { text.new ≡ text.old ++ line_of (B.Bank.told bank.now) (plan_contents plan.now) resource }
+    ensures text { text.new ≡ text.old
+        ++ line_of (B.Bank.told bank.now) (plan_contents plan.now) resource }
     ensures few { length text.new ≤ length text.old + 65 }
 {
-    let write = wait_limit(plan, bank, resource, Mode::Write).unwrap_or(0);
+    let write = wait_limit(plan, bank, resource, Mode::Write).unwrap();
     let read = wait_limit(plan, bank, resource, Mode::Read);
     push_line(text, resource, write, read).unwrap();
 }
@@ -52,12 +54,13 @@ fn limits_of<B: Bank>(plan: &Plan, bank: &B) -> ByteVec<1040>
     text
 }
 
-/// Writes the wait limits of each resource of a bank, by the lengths of a plan, at the start of memory, and answers the
-/// size. 1,040 bytes are always enough.
+/// Writes the wait limits of each resource of a bank, by the lengths of a plan, at the start of
+/// memory, and answers the size. 1,040 bytes are always enough.
 pub fn write_limits<B: Bank>(plan: &Plan, bank: &B, out: &mut [u8]) -> Result<usize, Refusal>
     ensures fits { 1040 ≤ length out.old → is_ok result ≡ true }
     ensures few { elim result [ Ok n ↦ n ≤ 1040 | Err why ↦ Unit {0} ] }
-    ensures writes { Writes out.old 0 (limits_text (B.Bank.told bank.now) (plan_contents plan.now)) result out.new }
+    ensures writes { Writes out.old 0
+        (limits_text (B.Bank.told bank.now) (plan_contents plan.now)) result out.new }
 {
     write_bytes(out, 0, limits_of(plan, bank).as_slice())
 }

@@ -8,17 +8,15 @@ use Rattle.bank.specs.Meaning.{Lists}
 use Rattle.plan.specs.Contents.{length_at}
 use Rattle.rules.specs.Answers.{Event, made, released, asked, gave, finished, ticked, Answered}
 use Rattle.rules.specs.Histories.{History, lists, releases, job, wanted, issued, used, holding, pending, state_of, jobs_after, after}
-use Rattle.rules.specs.Holders.{NamesLate}
 use Rattle.rules.specs.Jobs.{Setup, Snapshot, runs}
 use Rattle.rules.specs.Moves.{Does}
 use Rattle.rules.specs.Promises.{Kept, InMode, AtMost, WithinLength, AnsweredAfter, Lawful}
 use Rattle.rules.specs.Runs.{SetUp, Begins, SoundLists, moment, Runs, starts, goes, LawfulRun, Follows, Starts}
-use Rattle.rules.specs.Questions.{late_task}
 use Rattle.rules.specs.States.{is_ready, is_pending}
 use Rattle.rules.specs.declared.task.Wanted.{Wanted}
 use Rattle.rules.proofs.Ends.{held_back_lem}
 use Rattle.rules.proofs.Gives.{entries}
-use Rattle.rules.proofs.Holders.{names_late, pending_words}
+use Rattle.rules.proofs.Holders.{pending_words}
 use Rattle.rules.proofs.Lift.{Setting, InvOf, SoundOf, Stepped, released_stepped}
 use Rattle.rules.proofs.LiftAsk.{asked_stepped}
 use Rattle.rules.proofs.LiftFinish.{finished_stepped}
@@ -210,7 +208,3 @@ begins a s b sound = lawful_run (starts b sound)
 -- a task waits or is held back
 pub pending_lem : {a : Setup} {s : Snapshot} {h : History} → Runs a s h → (t : ℕ) → is_pending (s.tasks t).state ≡ pending t h
 pending_lem {a} {s} {h} run t = let end = run_end run in ap (λ (z : Snapshot). is_pending (z.tasks t).state) end.same ∙ pending_words a (releases h) h t (end.inv.tasks t)
-
--- the lowest late task
-pub late_lem : {a : Setup} {s : Snapshot} {h : History} → Runs a s h → NamesLate a (after a h) (late_task a s)
-late_lem {a} {s} {h} run = let end = run_end run in subst (λ (z : Snapshot). NamesLate a (after a h) (late_task a z)) (sym end.same) (names_late a h end.inv)
