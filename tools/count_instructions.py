@@ -3,7 +3,8 @@
 
 count_instructions.py [STINT [BENCH]], where the programs of crates/stint and crates/bench stand for what is not named.
 Each run is made once under valgrind's callgrind. What stint takes for its plan alone is subtracted, and the rest is divided by
-the number of lines. The same program gives the same counts on any machine and at any load, so that versions can be compared.
+the number of lines. The load of the machine does not matter, and two runs of one program differ by some thousandths at most, so
+versions can be compared.
 """
 import subprocess
 import sys
