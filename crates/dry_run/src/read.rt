@@ -4,7 +4,7 @@ ghost use Rattle.std.specs.Io.{ReadsAtMost};
 ghost use Rattle.std.specs.Io.KnownBytes.{Consumes, IsAtEnd, Keeps};
 ghost use Rattle.dry_run.specs.Played.{NotInterrupted};
 
-use crate::tries::{TRIES, is_interrupted, too_many_tries};
+use crate::tries::{TRIES, too_many_tries, unless_interrupted};
 use std::io;
 use std::io::Read;
 
@@ -20,10 +20,8 @@ pub(crate) fn read_piece<R: Read>(reader: &mut R, piece: &mut [u8]) -> io::Resul
     ensures retried { IfErr result NotInterrupted }
 {
     for _ in 0..TRIES {
-        match reader.read(piece) {
-            Ok(n) => return Ok(n),
-            Err(e) if is_interrupted(&e) => {}
-            Err(e) => return Err(e),
+        if let Some(answer) = unless_interrupted(reader.read(piece)) {
+            return answer;
         }
     }
     Err(too_many_tries())

@@ -3,7 +3,7 @@ ghost use Rattle.std.specs.Prelude.{◌≤◌, length, take, IfErr, OnErr, OnOk}
 ghost use Rattle.std.specs.Io.KnownBytes.{Appends};
 ghost use Rattle.dry_run.specs.Played.{AppendsFront, NotInterrupted};
 
-use crate::tries::{TRIES, is_interrupted, too_many_tries};
+use crate::tries::{TRIES, too_many_tries, unless_interrupted};
 use std::io;
 use std::io::{Error, ErrorKind, Write};
 
@@ -19,11 +19,11 @@ fn write_bytes<W: Write>(writer: &mut W, bytes: &[u8]) -> io::Result<()>
         if rest.is_empty() {
             return Ok(());
         }
-        match writer.write(rest) {
-            Ok(0) => return Err(Error::from(ErrorKind::WriteZero)),
-            Ok(n) => rest = &rest[n..],
-            Err(e) if is_interrupted(&e) => {}
-            Err(e) => return Err(e),
+        match unless_interrupted(writer.write(rest)) {
+            Some(Ok(0)) => return Err(Error::from(ErrorKind::WriteZero)),
+            Some(Ok(n)) => rest = &rest[n..],
+            Some(Err(e)) => return Err(e),
+            None => {}
         }
     }
     Err(too_many_tries())
