@@ -1,4 +1,5 @@
-ghost use Rattle.std.specs.Prelude.{◌≡◌, ◌+◌, ◌<◌, ◌≤◌, ◌++◌, true, cond, length, Some, None, IfSome, ◌^◌, is_ok, Ok, Err};
+ghost use Rattle.std.specs.Prelude.{◌≡◌, ◌+◌, ◌<◌, ◌≤◌, ◌^◌, ◌++◌, true, cond, length};
+ghost use Rattle.std.specs.Prelude.{Some, None, IfSome, is_ok, IfOk};
 ghost use Rattle.bank.specs.Questions.{knows};
 ghost use Rattle.plan.specs.Of.{plan_contents};
 ghost use Rattle.text.specs.Memory.{Writes};
@@ -47,18 +48,18 @@ fn limits_of<B: Bank>(plan: &Plan, bank: &B) -> ByteVec<1040>
     ensures few { length result ≤ 1040 }
 {
     let mut text = ByteVec::new();
-    // by number, since a bank is asked for a resource by its number
     for resource in 0..bank.resources() {
         push_resource(&mut text, plan, bank, resource);
     }
     text
 }
 
-/// Writes the wait limits of each resource of a bank, by the lengths of a plan, at the start of
-/// memory, and answers the size. 1,040 bytes are always enough.
+/// Writes the wait limits of each resource of a bank in ticks, by the lengths of a plan, at the
+/// start of memory, and answers the size in bytes. 1,040 bytes are always enough; a text that does
+/// not fit is refused by 23.
 pub fn write_limits<B: Bank>(plan: &Plan, bank: &B, out: &mut [u8]) -> Result<usize, Refusal>
     ensures fits { 1040 ≤ length out.old → is_ok result ≡ true }
-    ensures few { elim result [ Ok n ↦ n ≤ 1040 | Err why ↦ Unit {0} ] }
+    ensures few { IfOk result (λ n. n ≤ 1040) }
     ensures writes { Writes out.old 0
         (limits_text (B.Bank.told bank.now) (plan_contents plan.now)) result out.new }
 {
