@@ -69,7 +69,8 @@ pub fn give<B: Bank>(
     ensures keeps { Unchanged (gave_of result) controller.old controller.new }
     ensures claim { HandedBack claim
         (is_pending ((snapshot_of B.Bank controller.old).tasks claim.task).state) result }
-    ensures run { (h : History) → Runs (setup_of B.Bank controller.old) (snapshot_of B.Bank controller.old) h
+    ensures run { (h : History)
+        → Runs (setup_of B.Bank controller.old) (snapshot_of B.Bank controller.old) h
         → HandedBack claim (pending claim.task h) result }
 {
     give_back(controller, claim)

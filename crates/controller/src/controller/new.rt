@@ -19,7 +19,8 @@ use table::records::Records;
 
 // Whether a resource of the plan and the bank has the plan's k and modes, and nobody active.
 fn fits_at<B: Bank>(plan: &Plan, bank: &B, resource: u32) -> bool
-    requires { (resource < (B.Bank.told bank.now).resources) × (resource < resource_count (plan_contents plan.now)) }
+    requires { (resource < (B.Bank.told bank.now).resources)
+        × (resource < resource_count (plan_contents plan.now)) }
     ensures { result ≡ fits_at (plan_contents plan.now) (B.Bank.told bank.now) (B.Bank.active bank.now) resource }
 {
     let (k, reads) = match plan.resource(resource as usize).unwrap() {
@@ -33,7 +34,8 @@ fn fits_at<B: Bank>(plan: &Plan, bank: &B, resource: u32) -> bool
 
 // Whether each of the first so many resources fits.
 fn each_fits<B: Bank>(plan: &Plan, bank: &B, resources: u32) -> bool
-    requires { (resources ≤ (B.Bank.told bank.now).resources) × (resources ≤ resource_count (plan_contents plan.now)) }
+    requires { (resources ≤ (B.Bank.told bank.now).resources)
+        × (resources ≤ resource_count (plan_contents plan.now)) }
     ensures { IsTrue result ↔ ((r : ℕ) → r < resources → IsTrue (fits_at (plan_contents plan.now) (B.Bank.told bank.now) (B.Bank.active bank.now) r)) }
 {
     (0..resources).all(|r| fits_at(plan, bank, r))

@@ -46,9 +46,12 @@ impl<B: Bank> Controller<B> {
     /// The task of the holder that has the fewest ticks left, of equal ones the lowest, and its
     /// ticks left: how many accepted ticks it may still hold. Nothing where nobody holds.
     pub fn nearest_end(&self) -> Option<(u32, u32)>
-        ensures value { result ≡ nearest_end (setup_of B.Bank self.now) (snapshot_of B.Bank self.now) }
-        ensures nearest { IsNearestEnd (setup_of B.Bank self.now) (snapshot_of B.Bank self.now) result }
-        ensures run { (h : History) → Runs (setup_of B.Bank self.now) (snapshot_of B.Bank self.now) h
+        ensures value { result ≡ nearest_end (setup_of B.Bank self.now)
+            (snapshot_of B.Bank self.now) }
+        ensures nearest { IsNearestEnd (setup_of B.Bank self.now) (snapshot_of B.Bank self.now)
+            result }
+        ensures run { (h : History)
+            → Runs (setup_of B.Bank self.now) (snapshot_of B.Bank self.now) h
             → IsNearestEnd (setup_of B.Bank self.now) (after (setup_of B.Bank self.now) h) result }
     {
         self.nearest()
@@ -70,7 +73,8 @@ impl<B: Bank> Controller<B> {
     /// task that does not exist is not.
     pub fn is_pending(&self, task: u32) -> bool
         ensures value { result ≡ is_pending ((snapshot_of B.Bank self.now).tasks task).state }
-        ensures run { (h : History) → Runs (setup_of B.Bank self.now) (snapshot_of B.Bank self.now) h
+        ensures run { (h : History)
+            → Runs (setup_of B.Bank self.now) (snapshot_of B.Bank self.now) h
             → result ≡ pending task h }
     {
         self.has_pending(task)

@@ -82,7 +82,8 @@ impl<B: Bank> Controller<B> {
         ensures setup { setup_of B.Bank self.new ≡ setup_of B.Bank self.old }
         ensures does { Does (setup_of B.Bank self.old) (snapshot_of B.Bank self.old) (ticked result) (snapshot_of B.Bank self.new) }
         ensures follows { Follows (setup_of B.Bank self.old) (snapshot_of B.Bank self.old) (ticked result) (snapshot_of B.Bank self.new) }
-        ensures late { (h : History) → Runs (setup_of B.Bank self.old) (snapshot_of B.Bank self.old) h
+        ensures late { (h : History)
+            → Runs (setup_of B.Bank self.old) (snapshot_of B.Bank self.old) h
             → TickNames (setup_of B.Bank self.old) (after (setup_of B.Bank self.old) h) result }
         ensures bank { BankChanges B.Bank (snapshot_of B.Bank self.old) (ticked result) self.old.bank self.new.bank }
         ensures keeps { Unchanged result self.old self.new }
