@@ -1,7 +1,7 @@
 -- How a controller begins, over a bank that fits and over one that does not.
-use Rattle.std.proofs.Common.{◌≡◌, ℕ, zero, suc, ◌<◌, ◌≤◌, Bool, true, false, cond, ◌&&◌, eqb, ltb, ◌⊎◌, length, get_or, replicate, sym, refl, ap, ◌∙◌, subst, inl, inr, ⊎_elim, arith}
+use Rattle.std.proofs.Common.{◌≡◌, ℕ, ◌<◌, ◌≤◌, Bool, true, false, cond, ◌&&◌, eqb, ltb, ◌⊎◌, length, get_or, replicate, sym, refl, ap, ◌∙◌, subst, inl, inr, arith}
 use Rattle.std.proofs.ByRecursion.{All-get_or}
-use Rattle.std.proofs.lemmas.Bool.{ltb-true, eq-eqb, and_from, and_parts, cases_eq}
+use Rattle.std.proofs.lemmas.Bool.{ltb-true, eq-eqb}
 use Rattle.bank.specs.Meaning.{Lists, Small}
 use Rattle.bank.specs.Questions.{Told}
 use Rattle.plan.specs.Contents.{Contents, resource_count, processors}
@@ -13,26 +13,14 @@ use Rattle.rules.specs.Questions.{all_below, fits, fits_at}
 use Rattle.rules.specs.Runs.{Fitting, Unfit, Begins}
 use Rattle.rules.specs.States.{idle_task}
 use Rattle.rules.specs.declared.task.Task.{Task}
+use Rattle.rules.proofs.Counts.{all_below_lem, all_below_from}
 use Rattle.rules.proofs.Fits.{fits_true, fits_false}
 use Rattle.table.specs.Rows.{tasks_in}
 use Rattle.table.proofs.Rows.{same_all}
 
 -- whether all pass, by each
-each_passes : (test : ℕ → Bool) (n : ℕ) → all_below test n ≡ true → (k : ℕ) → k < n → test k ≡ true
-each_passes test zero e k lt = absurd (omega arith)
-each_passes test (suc n) e k lt =
-    let parts = and_parts (all_below test n) (test n) e in
-    ⊎_elim
-    (λ (same : k ≡ n). ap test same ∙ parts.1)
-    (λ (ne : k ≡ n → ⊥). each_passes test n parts.0 k (omega arith))
-    (cases_eq k n)
-
-all_pass : (test : ℕ → Bool) (n : ℕ) → ((k : ℕ) → k < n → test k ≡ true) → all_below test n ≡ true
-all_pass test zero each = refl
-all_pass test (suc n) each = and_from (all_below test n) (test n) (all_pass test n (λ k lt. each k (omega arith))) (each n (omega arith))
-
 pub all_by_each : (test : ℕ → Bool) (n : ℕ) (b : Bool) → (b ≡ true → (k : ℕ) → k < n → test k ≡ true) → (((k : ℕ) → k < n → test k ≡ true) → b ≡ true) → b ≡ all_below test n
-all_by_each test n b all only = same b (all_below test n) (λ e. all_pass test n (all e)) (λ e. only (each_passes test n e))
+all_by_each test n b all only = same b (all_below test n) (λ e. all_below_from test n (all e)) (λ e. only (all_below_lem test n e))
   where
     same : (b x : Bool) → (b ≡ true → x ≡ true) → (x ≡ true → b ≡ true) → b ≡ x
     same true x f g = sym (f refl)
