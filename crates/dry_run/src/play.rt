@@ -129,7 +129,7 @@ pub fn play<R: Read, W: Write>(alloc: Global, reader: &mut R, writer: &mut W) ->
         (W.contents writer.old) (W.contents writer.new)) }
     ensures retried { IfErr result NotInterrupted }
 {
-    let mut room = vec![in alloc; 0u8; 65536]?;
-    let mut out = vec![in alloc; 0u8; 656400]?;
+    let mut room = vec![in alloc; 0u8; 4096]?;
+    let mut out = vec![in alloc; 0u8; 42000]?;
     play_pieces(reader, writer, room.as_mut_slice(), out.as_mut_slice())
 }
