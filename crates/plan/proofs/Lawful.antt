@@ -1,4 +1,4 @@
--- What a sealed plan says keeps the limits.
+-- The limits of a plan as the questions put to a line test them. In its own words they are KeepsLimits.
 use Rattle.std.proofs.Common.{◌≡◌, ℕ, ◌+◌, ◌/◌, ◌%◌, ◌<◌, ◌≤◌, true, ltb, List, length, get_or, sum, zero-add, arith}
 use Rattle.std.specs.List.{AllByRecursion}
 use Rattle.std.proofs.ByRecursion.{All-from_get_or}
