@@ -1,41 +1,152 @@
-//! Plays each listing that an argument names: data NAME.in must print NAME.out, however it is cut into pieces.
+//! Plays each listing that an argument names: data NAME.in must print NAME.out, in whatever pieces
+//! it is read and written, and what is written ahead of an error is the front of it.
 #![tactic(auto)]
 
-use dry_run::run::DryRun;
-use std::alloc::{AllocError, Global};
+ghost use Rattle.std.specs.Prelude.{◌≡◌, ◌↔◌, IfOk, IsTrue, []};
+ghost use Rattle.dry_run.specs.Plays.{Printed};
+
+use dry_run::play::play;
+use std::alloc::Global;
+use std::io::ErrorKind;
 use std::{env, fs, io};
 
-// Whether an input in pieces of a size gives the bytes wanted.
-fn gives(heap: Global, input: &[u8], size: usize, wanted: &[u8]) -> Result<bool, AllocError> {
-    let mut run = DryRun::new();
-    let mut memory = vec![in heap; 0u8; size.saturating_mul(10).saturating_add(1040)]?;
-    let mut printed = Vec::new(heap);
-    for piece in input.chunks(size.max(1)) {
-        let out = memory.as_mut_slice();
-        match run.feed(piece, out) {
-            Ok(n) => printed.extend_from_slice(&out[0..n])?,
-            Err(_) => return Ok(false),
-        }
+mod reader;
+mod writer;
+
+use reader::PieceReader;
+use writer::PieceWriter;
+
+// A reader that gives at most `more` bytes and one more at a time.
+fn reader_of(input: &[u8], more: usize) -> PieceReader<'_>
+    ensures { result.rest.now ≡ input.now }
+{
+    PieceReader {
+        rest: input,
+        more,
+        interrupts: false,
+        interrupted: false,
+        fails_at: None,
     }
-    let out = memory.as_mut_slice();
-    match run.end(out) {
-        Ok(n) => printed.extend_from_slice(&out[0..n])?,
-        Err(_) => return Ok(false),
-    }
-    Ok(printed.as_slice() == wanted)
 }
 
-// Whether a listing gives what it must, in pieces of 1 to 19 bytes and whole.
+// A writer that takes all that it is given.
+fn writer_in(heap: Global) -> PieceWriter
+    ensures { result.taken.items ≡ [] }
+{
+    PieceWriter {
+        taken: Vec::new(heap),
+        more: usize::MAX,
+        interrupts: false,
+        interrupted: false,
+        room: usize::MAX,
+        fails: false,
+    }
+}
+
+// Whether what a reader gives is what must be printed, as a writer takes it.
+fn gives(
+    heap: Global,
+    mut reader: PieceReader<'_>,
+    mut writer: PieceWriter,
+    wanted: &[u8],
+) -> io::Result<bool>
+    requires { writer.taken.items ≡ [] }
+    ensures { IfOk result (λ same. IsTrue same ↔ Printed reader.entry.rest.now wanted.now) }
+{
+    play(heap, &mut reader, &mut writer)?;
+    Ok(writer.taken.as_slice() == wanted)
+}
+
+// Whether it ends in an error of this kind, with the front of what must be printed written, and
+// how much of it.
+fn breaks(
+    heap: Global,
+    mut reader: PieceReader<'_>,
+    mut writer: PieceWriter,
+    wanted: &[u8],
+    kind: ErrorKind,
+) -> Option<usize> {
+    match play(heap, &mut reader, &mut writer) {
+        Err(e) if e.kind() == kind && wanted.starts_with(writer.taken.as_slice()) => {
+            Some(writer.taken.len())
+        }
+        _ => None,
+    }
+}
+
+// The same of an input in pieces of at most `more` bytes and one more.
+fn gives_in_pieces(heap: Global, input: &[u8], more: usize, wanted: &[u8]) -> io::Result<bool>
+    ensures { IfOk result (λ same. IsTrue same ↔ Printed input.now wanted.now) }
+{
+    gives(heap, reader_of(input, more), writer_in(heap), wanted)
+}
+
+// Whether an input prints what it must: in pieces of 1 to 19 bytes and whole, and in pieces that
+// are interrupted and written a few bytes at a time.
+fn prints(heap: Global, input: &[u8], wanted: &[u8]) -> io::Result<bool>
+    ensures { IfOk result (λ same. IsTrue same ↔ Printed input.now wanted.now) }
+{
+    for more in 0..19usize {
+        if !gives_in_pieces(heap, input, more, wanted)? {
+            return Ok(false);
+        }
+    }
+    let mut pieces = reader_of(input, 12);
+    pieces.interrupts = true;
+    let mut taken = writer_in(heap);
+    taken.more = 2;
+    taken.interrupts = true;
+    if !gives(heap, pieces, taken, wanted)? {
+        return Ok(false);
+    }
+    gives_in_pieces(heap, input, input.len(), wanted)
+}
+
+// Whether a reader that fails in mid-stream, a writer that does, and one that then takes nothing,
+// end it in that error, with the front of what must be printed written: of the writers the half
+// that they took.
+fn stops(heap: Global, input: &[u8], wanted: &[u8]) -> bool {
+    let half = wanted.len() / 2;
+    let mut pieces = reader_of(input, 6);
+    pieces.fails_at = Some(input.len() / 2);
+    let mut full = writer_in(heap);
+    full.room = half;
+    full.fails = true;
+    let mut closed = writer_in(heap);
+    closed.room = half;
+    breaks(
+        heap,
+        pieces,
+        writer_in(heap),
+        wanted,
+        ErrorKind::ConnectionReset,
+    )
+    .is_some()
+        && breaks(
+            heap,
+            reader_of(input, 6),
+            full,
+            wanted,
+            ErrorKind::StorageFull,
+        ) == Some(half)
+        && breaks(
+            heap,
+            reader_of(input, 6),
+            closed,
+            wanted,
+            ErrorKind::WriteZero,
+        ) == Some(half)
+}
+
+// Whether a listing gives what it must.
 fn listing(rt: &HostRuntime, name: &str) -> io::Result<bool> {
     let heap = rt.alloc();
     let input = fs::read(rt, format!(in heap; "{name}.in")?.as_str())?;
     let wanted = fs::read(rt, format!(in heap; "{name}.out")?.as_str())?;
-    for size in 1..20usize {
-        if !gives(heap, input.as_slice(), size, wanted.as_slice())? {
-            return Ok(false);
-        }
-    }
-    Ok(gives(heap, input.as_slice(), input.len(), wanted.as_slice())?)
+    Ok(
+        prints(heap, input.as_slice(), wanted.as_slice())?
+            && stops(heap, input.as_slice(), wanted.as_slice()),
+    )
 }
 
 fn main(rt: HostRuntime) -> io::Result<()> {
