@@ -19,15 +19,17 @@ pub record Small (t : Told) : Type 0 where
   pub seats : t.seats ≤ 64
   pub limits : (r : ℕ) (m : Mode) → r < t.resources → knows t r m ≡ true → t.limit r m ≤ 1000
 
--- one active request where h hold. A holder waits for nothing more; whoever waits has a turn and a departure before it
--- at least, no more turns than its mode's limit, and no more departures than there are holders
+-- one active request where h hold. A holder waits for nothing more; whoever waits has a turn and a
+-- departure before it at least, no more turns than its mode's limit, and no more departures than
+-- there are holders
 pub record Lawful (t : Told) (r h : ℕ) (a : Request) : Type 0 where
   pub party : a.party < 64
   pub known : knows t r a.mode ≡ true
   pub holding : holds a ≡ true → (turns a ≡ 0) × (departures a ≡ 0)
   pub waiting : holds a ≡ false → (1 ≤ turns a) × (turns a ≤ t.limit r a.mode) × (1 ≤ departures a) × (departures a ≤ h)
 
--- a resource at any time: each request is lawful, no more than k hold to write, and nobody holds to read beside those
+-- a resource at any time: each request is lawful, no more than k hold to write, and nobody holds to
+-- read beside those
 pub record Sound (t : Told) (r : ℕ) (xs : List Request) : Type 0 where
   pub requests : AllByRecursion (Lawful t r (holders xs)) xs
   pub writers : count holds_write xs ≤ t.slots r
@@ -41,8 +43,8 @@ pub record Added (p : ℕ) (m : Mode) (h : Bool) (old new : List Request) : Type
   pub mode : request.mode ≡ m
   pub holds : holds request ≡ h
 
--- a request before and after somebody else left. Who held still holds. Who waited came nearer: it now holds, or one
--- departure of the turn it waits for is done, or it waits for fewer turns
+-- a request before and after somebody else left. Who held still holds. Who waited came nearer: it
+-- now holds, or one departure of the turn it waits for is done, or it waits for fewer turns
 pub record Stays (a b : Request) : Type 0 where
   pub party : b.party ≡ a.party
   pub mode : b.mode ≡ a.mode

@@ -10,8 +10,9 @@ ghost use Rattle.bank.specs.Meaning.{Small, Sound, Enters, Leaves, Keeps};
 use crate::refusal::Refusal;
 use crate::request::{Mode, Request};
 
-/// A set of shared resources. `told` is what it tells of itself, and `active` lists for each resource who is active
-/// there, as they entered. Whoever makes a bank proves the laws and these contracts; whoever uses one has no more.
+/// A set of shared resources. `told` is what it tells of itself, and `active` lists for each
+/// resource who is active there, as they entered. Whoever makes a bank proves the laws and these
+/// contracts; whoever uses one has no more.
 pub trait Bank {
     ghost told: { Self → Told };
 

@@ -15,7 +15,8 @@ pub enum Mode {
 pub enum Standing {
     /// It holds.
     Holds,
-    /// It waits for so many turns, the present one included, and within that for so many holders to leave.
+    /// It waits for so many turns, the present one included, and within that for so many holders to
+    /// leave.
     Waits { turns: u32, departures: u32 },
 }
 

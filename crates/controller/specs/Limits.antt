@@ -15,5 +15,7 @@ TellsTurns a r m (Err why) = (first_no (limit_questions a r m) ≡ Some (number 
 
 -- the wait limit of a mode at a resource
 abbrev pub TellsLimit : Setup → ℕ → Mode → Result ℕ Refusal → Type 0
-TellsLimit a r m (Ok n) = (first_no (limit_questions a r m) ≡ None) × (n ≡ wait_limit a.told a.plan r m)
+TellsLimit a r m (Ok n) =
+    (first_no (limit_questions a r m) ≡ None)
+    × (n ≡ wait_limit a.told a.plan r m)
 TellsLimit a r m (Err why) = (first_no (limit_questions a r m) ≡ Some (number why)) × (from_bank why ≡ false)

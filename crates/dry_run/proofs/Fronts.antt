@@ -152,6 +152,7 @@ module _ (before after old new : Option (List ℕ)) (d : DryRun) (read out : Lis
   finishes last says only ended appended = record {
     input = read;
     has = has_all before after read consumed ended;
+    consumed = consumed;
     ended = ended;
     printed = out ++ last;
     appended = appended;

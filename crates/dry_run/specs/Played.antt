@@ -18,6 +18,7 @@ Has before input = IfSome before (λ bytes. bytes ≡ input)
 pub record Played (before after old new : Option (List ℕ)) : Type 0 where
   pub input : List ℕ
   pub has : Has before input
+  pub consumed : Consumes before after input
   pub ended : IsAtEnd after
   pub printed : List ℕ
   pub appended : Appends old new printed

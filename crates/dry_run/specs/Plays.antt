@@ -18,13 +18,25 @@ use Rattle.dry_run.specs.Banks.{Banks}
 use Rattle.dry_run.specs.Made.{meaning, setup, snapshot, MadeFrom, Step}
 use Rattle.dry_run.specs.Said.{behind_plan, plan_told, refused_text, verdict}
 
--- the lines so far, the history of their calls, where the controller stands, and what was printed of them. A line that is
--- an event is a call, and it is printed with the answer; a line that is none is printed with the number of the question
--- that is answered no, and is no call
-pub data Replays (first : Controller Banks meaning) : List (List ℕ) → History → Controller Banks meaning → List ℕ → Type 0 where
+-- the lines so far, the history of their calls, where the controller stands, and what was printed of
+-- them. A line that is an event is a call, and it is printed with the answer; a line that is none is
+-- printed with the number of the question that is answered no, and is no call
+pub data Replays (first : Controller Banks meaning) :
+    List (List ℕ) → History → Controller Banks meaning → List ℕ → Type 0 where
   none : Replays first [] (moment made (snapshot first) ∷ []) first []
-  unreadable : {lines : List (List ℕ)} {h : History} {k : Controller Banks meaning} {out : List ℕ} (line : List ℕ) (why : Refusal) → Replays first lines h k out → first_no (event_questions line) ≡ Some (number why) → Replays first (lines ++ (line ∷ [])) h k (out ++ unreadable_text why)
-  answered : {lines : List (List ℕ)} {h : History} {k : Controller Banks meaning} {out : List ℕ} (line : List ℕ) (e : Event) (call : Call) (next : Controller Banks meaning) → Replays first lines h k out → read_event line ≡ Some e → event_of call ≡ Some e → Step k call next → Replays first (lines ++ (line ∷ [])) (moment call (snapshot next) ∷ h) next (out ++ line_text call)
+  unreadable : {lines : List (List ℕ)} {h : History} {k : Controller Banks meaning} {out : List ℕ}
+      (line : List ℕ) (why : Refusal)
+      → Replays first lines h k out
+      → first_no (event_questions line) ≡ Some (number why)
+      → Replays first (lines ++ (line ∷ [])) h k (out ++ unreadable_text why)
+  answered : {lines : List (List ℕ)} {h : History} {k : Controller Banks meaning} {out : List ℕ}
+      (line : List ℕ) (e : Event) (call : Call) (next : Controller Banks meaning)
+      → Replays first lines h k out
+      → read_event line ≡ Some e
+      → event_of call ≡ Some e
+      → Step k call next
+      → Replays first (lines ++ (line ∷ [])) (moment call (snapshot next) ∷ h) next
+      (out ++ line_text call)
 
 -- a run of the controller of a plan, whose calls are the lines that are events, and what was printed: the wait limits, and each line
 pub record Plays (c : Contents) (k : Controller Banks meaning) (lines : List (List ℕ)) (out : List ℕ) : Type 0 where

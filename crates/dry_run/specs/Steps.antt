@@ -14,11 +14,17 @@ use Rattle.dry_run.specs.declared.run.DryRun.{DryRun}
 use Rattle.dry_run.specs.declared.run.Phase.{Phase}
 use Rattle.dry_run.specs.declared.run.Phase.TheVariants.{Plan, Events, Over}
 
--- a line that is an event is a call, with its answer printed; another is printed with the number of its refusal, and
--- nothing changes
-abbrev pub LineDone : Controller Banks meaning → Result Event Refusal → List ℕ → Controller Banks meaning → Type 0
+-- a line that is an event is a call, with its answer printed; another is printed with the number of
+-- its refusal, and nothing changes
+abbrev pub LineDone : Controller Banks meaning → Result Event Refusal → List ℕ →
+    Controller Banks meaning → Type 0
 LineDone k (Err why) printed next = (printed ≡ unreadable_text why) × (next ≡ k)
-LineDone k (Ok e) printed next = (call : Call) × (event_of call ≡ Some e) × (printed ≡ line_text call) × Follows (setup k) (snapshot k) call (snapshot next) × Step k call next
+LineDone k (Ok e) printed next =
+    (call : Call)
+    × (event_of call ≡ Some e)
+    × (printed ≡ line_text call)
+    × Follows (setup k) (snapshot k) call (snapshot next)
+    × Step k call next
 
 -- the size of an event's line, and of the shortest that is none
 abbrev pub line_size : Result Event Refusal → ℕ
@@ -26,7 +32,8 @@ line_size (Err why) = 1
 line_size (Ok e) = length (event_text e)
 
 -- a line was answered, and what is printed of it stands at a place, at most ten bytes for each of the line
-pub record LineTaken (c c' : Controller Banks meaning) (event : Result Event Refusal) (old : List ℕ) (at end : ℕ) (new : List ℕ) : Type 0 where
+pub record LineTaken (c c' : Controller Banks meaning) (event : Result Event Refusal)
+    (old : List ℕ) (at end : ℕ) (new : List ℕ) : Type 0 where
   pub printed : List ℕ
   pub laid : Laid old at printed end new
   pub few : end ≤ at + 10 * line_size event

@@ -71,7 +71,8 @@ pub(crate) fn lay_unreadable(why: Refusal, out: &mut [u8], at: usize) -> usize
     write_bytes(out, at, unreadable_line(why).as_slice()).unwrap()
 }
 
-// Answers the event that a line is, or its refusal where it is none, and lays what is printed of it.
+// Answers the event that a line is, or its refusal where it is none, and lays what is printed of
+// it.
 pub(crate) fn answer_line(
     controller: &mut Controller<Pair<Slots, ReadersWriters>>,
     event: Result<Event, Refusal>,

@@ -21,7 +21,7 @@ fn push_refused(line: &mut ByteVec<64>, question: u32, number: usize) -> Result<
     push_field(line, number as u64, b"\n")
 }
 
-// Apart from the public call, so that an edit there is refused by the contract and not at a proof.
+// The line of a refused plan, with its newline.
 fn line_of(why: Refused) -> ByteVec<64>
     ensures text { result ≡ refused_text (number why.refusal) why.line }
     ensures few { length result ≤ 50 }

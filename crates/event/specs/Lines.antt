@@ -8,7 +8,7 @@ use Rattle.text.specs.Refusals.{number}
 use Rattle.text.specs.declared.refusal.Refusal.{Refusal}
 use Rattle.bank.specs.declared.request.Mode.{Mode}
 use Rattle.bank.specs.declared.request.Mode.TheVariants.{Write, Read}
-use Rattle.item.specs.Lines.{read_field, is_newline}
+use Rattle.item.specs.Lines.{followed, read_field, is_newline}
 use Rattle.event.specs.declared.event.Event.{Event}
 use Rattle.event.specs.declared.event.Event.TheVariants.{Release, Ask, Give, Finish, Tick}
 
@@ -16,10 +16,6 @@ use Rattle.event.specs.declared.event.Event.TheVariants.{Release, Ask, Give, Fin
 abbrev pub mode_letter : Mode → ℕ
 mode_letter Write = code "W"
 mode_letter Read = code "R"
-
--- a number and the comma behind it
-abbrev pub followed : ℕ → List ℕ → List ℕ
-followed n rest = decimal n ++ (code "," ∷ rest)
 
 -- an event as it is written, and what stands behind it
 abbrev pub event_then : Event → List ℕ → List ℕ

@@ -67,7 +67,8 @@ fn parse(line: &[u8]) -> Option<Event>
 }
 
 impl Event {
-    /// The event that a line with its newline is. A line that has none of the five forms is refused by 21.
+    /// The event that a line with its newline is. A line that has none of the five forms is refused
+    /// by 21.
     #[tactic(auto, using(crate::proofs::Lines::is_line_of, crate::proofs::Lines::size_of))]
     pub fn read(line: &[u8]) -> Result<Event, Refusal>
         ensures reads { ReadsEvent line.now result }

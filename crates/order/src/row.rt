@@ -15,7 +15,8 @@ pub fn count_before<T: Ord>(row: &[T], x: &T) -> usize
     n
 }
 
-/// The place of a row's least element, the first place where several are equal; none in an empty row.
+/// The place of a row's least element, the first place where several are equal; none in an empty
+/// row.
 pub fn first_of<T: Ord>(row: &[T]) -> Option<usize>
     ensures { elim result [ None ↦ length row.now ≡ 0 | Some b ↦ IsFirstBest (λ x y. is_lt (T.cmp x y)) row.now (length row.now) b ] }
 {

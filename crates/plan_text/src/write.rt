@@ -30,7 +30,8 @@ fn lay_item(out: &mut [u8], at: usize, item: Item) -> usize
 fn lay_clusters(plan: &Plan, out: &mut [u8], at: usize) -> usize
     requires { at ≤ 2 ^ 40 }
     ensures few { result ≤ at + 35 * 8 }
-    ensures lays { Lays out.old at (row_text (cluster_items (plan_contents plan.now))) result out.new }
+    ensures lays { Lays out.old at (row_text (cluster_items (plan_contents plan.now))) result
+        out.new }
 {
     let mut end = at;
     for cluster in 0..plan.clusters() {
@@ -43,7 +44,8 @@ fn lay_clusters(plan: &Plan, out: &mut [u8], at: usize) -> usize
 // The item of a resource: the slot resources come first, and reader-writer resources follow.
 #[tactic(auto, using(crate::proofs::Writing::slots_at, crate::proofs::Writing::writers_at))]
 fn resource_item(plan: &Plan, resource: usize) -> Item
-    ensures { result ≡ slice_index_or (resource_items (plan_contents plan.now)) resource ReaderWriterItem }
+    ensures { result ≡ slice_index_or (resource_items (plan_contents plan.now)) resource
+        ReaderWriterItem }
 {
     let slots = plan.slot_holders();
     if resource < slots.len() {
@@ -58,7 +60,8 @@ fn resource_item(plan: &Plan, resource: usize) -> Item
 fn lay_resources(plan: &Plan, out: &mut [u8], at: usize) -> usize
     requires { at ≤ 2 ^ 40 }
     ensures few { result ≤ at + 35 * 16 }
-    ensures lays { Lays out.old at (row_text (resource_items (plan_contents plan.now))) result out.new }
+    ensures lays { Lays out.old at (row_text (resource_items (plan_contents plan.now))) result
+        out.new }
 {
     let mut end = at;
     for resource in 0..plan.resources() {

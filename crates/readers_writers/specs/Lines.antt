@@ -57,8 +57,9 @@ abbrev pub writer_holds : List Entry → List Entry
 writer_holds [] = []
 writer_holds (e ∷ es) = cond (is_writer e) (record { party = e.party; mode = e.mode; holds = true } ∷ es) (e ∷ writer_holds es)
 
--- what the others become when a holder of this mode has left: while one of them holds, they stay as they are. Behind
--- a writer all reads that were collected go first, in one group; without any, or behind a read, the first writer goes
+-- what the others become when a holder of this mode has left: while one of them holds, they stay as
+-- they are. Behind a writer all reads that were collected go first, in one group; without any, or
+-- behind a read, the first writer goes
 abbrev pub passed : Mode → List Entry → List Entry
 passed m es = cond (some is_holder es) es (cond (is_write m && some collected es) (reads_hold es) (writer_holds es))
 

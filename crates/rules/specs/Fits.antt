@@ -4,8 +4,8 @@ use Rattle.bank.specs.Meaning.{Lists}
 use Rattle.bank.specs.Questions.{Told}
 use Rattle.plan.specs.Contents.{Contents, processors, resource_count}
 use Rattle.rules.specs.Questions.{slots_in, reads_in}
+use Rattle.rules.specs.Refusals.{number}
 use Rattle.rules.specs.declared.refusal.Refusal.{Refusal}
-use Rattle.rules.specs.declared.refusal.Refusal.TheVariants.{NoFit}
 
 -- it has as many resources, and a seat for each processor; at each resource k and the modes are the
 -- plan's, and nobody is active
@@ -19,4 +19,4 @@ pub record BankFits (c : Contents) (t : Told) (lists : Lists) : Type 0 where
 -- the answer to whether it fits
 abbrev pub TellsFit : Contents → Told → Lists → Result (Unit {0}) Refusal → Type 0
 TellsFit c t lists (Ok done) = BankFits c t lists
-TellsFit c t lists (Err why) = (why ≡ NoFit) × (BankFits c t lists → ⊥)
+TellsFit c t lists (Err why) = (number why ≡ 24) × (BankFits c t lists → ⊥)

@@ -25,8 +25,8 @@ impl Table<'_> {
         ensures { (q : ℕ) → q < 64 → (slice_index_or result q (record { 0 = None })).0 ≡ job_at (plan_contents self.now.plan.now) self.now.tasks self.now.rows.now which cluster q }
     {
         let mut row = [AbsentLast(None); 64];
-        // by the number of a task, which is its place; written only where a job is, since all places
-        // are empty at first
+        // by the number of a task, which is its place; written only where a job is, since all
+        // places are empty at first
         for task in 0..self.tasks {
             let Some(job) = self.job_at(which, cluster, task) else {
                 continue;

@@ -16,8 +16,8 @@ pub(crate) fn put_bytes(out: &mut [u8], at: usize, bytes: &[u8]) -> usize
 }
 
 /// Writes bytes at a place, and answers the place behind them.
-// Memory and place are two arguments wherever something is written: a struct of both would have to say in each contract
-// and loop that it still lends the same memory.
+// Memory and place are two arguments wherever something is written: a struct of both would have to
+// say in each contract and loop that it still lends the same memory.
 pub fn write_bytes(out: &mut [u8], at: usize, bytes: &[u8]) -> Result<usize, Refusal>
     ensures { Writes out.old at bytes.now result out.new }
 {

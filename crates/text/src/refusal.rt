@@ -3,8 +3,8 @@ ghost use Rattle.text.specs.Refusals.{number};
 
 use byte_vec::byte_vec::Full;
 
-/// Why a line or a text is refused, or the memory handed in for one. Each case has one number, that of the
-/// question answered no.
+/// Why a line or a text is refused, or the memory handed in for one. Each case has one number, that
+/// of the question answered no.
 #[derive(Clone, Copy, Debug, PartialEq, Eq)]
 pub enum Refusal {
     /// 16: the line has none of the five forms.

@@ -52,8 +52,8 @@ impl DryRun {
     }
 
     /// Ends the input: writes what is then printed at the start of memory, and answers its size.
-    /// 64 bytes are enough. The dry run is only lent: it is the same value behind the call, so where
-    /// memory was too small it can be ended again, or fed more.
+    /// 64 bytes are enough. The dry run is only lent: it is the same value behind the call, so
+    /// where memory was too small it can be ended again, or fed more.
     pub fn end(&self, out: &mut [u8]) -> Result<usize, Refusal>
         ensures ends { EndsIn self.now out.old result out.new }
         ensures within { elim result [ Ok n ↦ n ≤ length out.old | Err why ↦ Unit {0} ] }

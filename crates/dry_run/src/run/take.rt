@@ -88,8 +88,8 @@ fn take_event_byte(
     answer_line(controller, event, out, at)
 }
 
-// Keeps a byte of the plan's text, where it has fewer than 16,383: the newline of its empty line is one more.
-// Apart from what takes a byte, so that an edit here is refused by the contract and not at a proof.
+// Keeps a byte of the plan's text, where it has fewer than 16,383: the newline of its empty line is
+// one more.
 fn keep(text: &mut ByteVec<16383>, b: u8) -> Result<(), Full>
     ensures { Appends 16383 text.old (b ∷ []) result text.new }
 {
