@@ -1,6 +1,6 @@
 //! A dry run from any reader to any writer.
 ghost use Rattle.std.specs.Prelude.{◌≡◌, ◌↔◌, ◌<◌, ◌+◌, ◌*◌, ◌≤◌, length};
-ghost use Rattle.std.specs.Prelude.{IfErr, IsErr, IsTrue, OnErr, OnOk};
+ghost use Rattle.std.specs.Prelude.{IfErr, IfOk, IsErr, IsTrue, OnErr, OnOk, vec_len};
 ghost use Rattle.dry_run.specs.Fed.{Ends, Takes};
 ghost use Rattle.dry_run.specs.Played.{Goes, Stops, Finishes, Breaks, Played, PlayedInPart};
 ghost use Rattle.dry_run.specs.Played.{NotInterrupted};
@@ -68,7 +68,8 @@ fn play_end<W: Write>(run: &DryRun, out: &mut [u8], writer: &mut W) -> io::Resul
     write_front(writer, out, size)
 }
 
-// Whether a read of so many bytes found the end of the input.
+// Whether a read of so many bytes found the end of the input. Apart from the loop, so that an
+// edit here is refused by the contract and not at a proof.
 fn is_end(read: usize) -> bool
     ensures { IsTrue result ↔ (read ≡ 0) }
 {
@@ -110,6 +111,14 @@ fn play_pieces<R: Read, W: Write>(
     out_of_tries()
 }
 
+// So many bytes of memory.
+fn memory(alloc: Global, size: usize) -> io::Result<Vec<u8>>
+    ensures size { IfOk result (λ bytes. vec_len bytes ≡ size) }
+    ensures retried { IfErr result NotInterrupted }
+{
+    Ok(vec![in alloc; 0u8; size]?)
+}
+
 /// Reads an input to its end, and writes what is printed of it, each piece as soon as it is read.
 /// It has two buffers of its own, and does not flush the writer.
 ///
@@ -128,7 +137,7 @@ pub fn play<R: Read, W: Write>(alloc: Global, reader: &mut R, writer: &mut W) ->
         (W.contents writer.old) (W.contents writer.new)) }
     ensures retried { IfErr result NotInterrupted }
 {
-    let mut room = vec![in alloc; 0u8; 4096]?;
-    let mut out = vec![in alloc; 0u8; 42000]?;
+    let mut room = memory(alloc, 4096)?;
+    let mut out = memory(alloc, 42000)?;
     play_pieces(reader, writer, room.as_mut_slice(), out.as_mut_slice())
 }
