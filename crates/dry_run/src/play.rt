@@ -68,8 +68,7 @@ fn play_end<W: Write>(run: &DryRun, out: &mut [u8], writer: &mut W) -> io::Resul
     write_front(writer, out, size)
 }
 
-// Whether a read of so many bytes found the end of the input. Apart from the loop, so that an
-// edit here is refused by the contract and not at a proof.
+// Whether a read of so many bytes found the end of the input.
 fn is_end(read: usize) -> bool
     ensures { IsTrue result ↔ (read ≡ 0) }
 {
