@@ -448,15 +448,15 @@ def random_run(seed):
 INPUTS |= {f"random_{seed}": random_run(seed) for seed in range(300)}
 
 
-# the program's run: the worked example and its events, and then more, over two pieces of the bytes that it reads at a time
-PIECE = 65536
+# the program's run: the worked example and its events, and then more than two full pipes, so that it is read in many pieces
+PIPE = 65536
 # every number that this plan can show: its tasks declare a length at its one resource (4), and 6 and 11 are for 100,000,000 calls
 SHOWN = [1, 2, 3, 5, 7, 8, 9, 10, 21]
 LONG_LINES = [b"z" * 1000, b"K" * 5000, b"A,0,0,W" * 40, b"," * 17, b"N,0 " * 4]
 
 
 def long_run():
-    """An input that begins with the worked example, is longer than two pieces, and ends without a newline."""
+    """An input that begins with the worked example, is longer than two full pipes, and ends without a newline."""
     draw = random.Random(2)
     text = INPUTS["run_example"]
     plan, events = text.split(b"\n\n")
@@ -474,8 +474,8 @@ def check_long_run(text, printed):
     """Fails where the run does not show what it is for."""
     example = INPUTS["run_example"]
     assert text.startswith(example) and printed.startswith(answer(example))
-    assert len(text) > 2 * PIECE and not text.endswith(b"\n") and printed.endswith(b"?,no,21\n")
-    for end in range(PIECE, len(text), PIECE):
+    assert len(text) > 2 * PIPE and not text.endswith(b"\n") and printed.endswith(b"?,no,21\n")
+    for end in range(PIPE, len(text), PIPE):
         assert text[end - 1] != 10 and text[end] != 10, f"a line ends at {end}"
     assert refusals(printed) == SHOWN
 
