@@ -8,9 +8,13 @@ use rules::task::State;
 /// The calls that are made for one task; a tick is for all.
 #[derive(Clone, Copy, Debug, PartialEq, Eq)]
 pub enum Call {
+    /// A job begins.
     Release,
+    /// The task asks for a resource.
     Ask,
+    /// It gives back what it holds.
     Give,
+    /// Its job ends.
     Finish,
 }
 

@@ -48,11 +48,19 @@ impl<B: Bank> Controller<B> {
 
 // Each call stands twice: `do_` and its name says what it does, and the call itself adds the law of
 // runs, by a lemma.
+/// A task asks for a resource.
 pub mod ask;
+/// What is asked before a call for a task.
 pub mod check;
+/// A job ends.
 pub mod finish;
+/// A task gives back what it holds.
 pub mod give;
+/// A controller is made.
 pub mod new;
+/// A job begins.
 pub mod release;
+/// What a controller is asked.
 pub mod tell;
+/// A tick passes.
 pub mod tick;

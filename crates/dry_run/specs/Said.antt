@@ -1,6 +1,7 @@
 -- What the program reads of its input, and what it prints.
 use Rattle.std.specs.Prelude.{ℕ, ◌+◌, Bool, true, cond, List, [], ◌∷◌, ◌++◌, length, take, drop, is_some, Some, None, Ok, Err, codes, decimal, Option, ◌==◌, slice_index, false}
 use Rattle.std.specs.Option.{unwrap_or, option_map}
+use Prim.Native.Char.{code}
 use Rattle.bank.specs.Questions.{Told}
 use Rattle.limits.specs.Lines.{limits_text}
 use Rattle.pair.specs.Pairs.{pair_told}
@@ -13,7 +14,10 @@ use Rattle.text.specs.Questions.{Question, ask, first_no}
 -- the bytes before the first empty line, if there is one: a newline where a line begins
 abbrev pub before_empty : Bool → List ℕ → Option (List ℕ)
 before_empty begins [] = None
-before_empty begins (b ∷ bs) = cond (b == 10) (cond begins (Some []) (option_map (λ rest. b ∷ rest) (before_empty true bs))) (option_map (λ rest. b ∷ rest) (before_empty false bs))
+before_empty begins (b ∷ bs) =
+    cond (b == code "\n")
+    (cond begins (Some []) (option_map (λ rest. b ∷ rest) (before_empty true bs)))
+    (option_map (λ rest. b ∷ rest) (before_empty false bs))
 
 -- the plan's text in an input: an empty line ends it within the first 16,384 bytes
 abbrev pub plan_part : List ℕ → Option (List ℕ)
@@ -35,7 +39,8 @@ abbrev pub verdict : List ℕ → Verdict
 verdict input = part_verdict (plan_part input)
 
 abbrev pub refused_text : ℕ → ℕ → List ℕ
-refused_text question line = codes "plan,no," ++ (decimal question ++ (44 ∷ (decimal line ++ (10 ∷ []))))
+refused_text question line =
+    codes "plan,no," ++ (decimal question ++ (code "," ∷ (decimal line ++ codes "\n")))
 
 -- what the slots of a plan, its readers and writers, and the pair of both tell
 abbrev pub slots_told : Contents → Told

@@ -27,6 +27,9 @@ pub struct DryRun {
     phase: Phase,
 }
 
+/// The next bytes of the input, and its end.
 pub mod feed;
+/// A dry run begins.
 pub mod new;
+/// What one byte does.
 pub mod take;

@@ -1,7 +1,11 @@
 //! An event of a dry run, read from its line, and the line that is printed of it with its answer.
 #![tactic(auto)]
 
+/// An event with its answer.
 pub mod answered;
+/// What one event line asks.
 pub mod event;
+/// From a line to its event.
 pub mod read;
+/// From an answered event to its line.
 pub mod write;

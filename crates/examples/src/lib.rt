@@ -4,6 +4,7 @@
 ghost use Rattle.examples.specs.Examples.{AllHold, EachIsIn};
 ghost use Rattle.examples.specs.Run.{RunHolds};
 
+/// The worked examples by name.
 pub mod example;
 
 use example::Example;

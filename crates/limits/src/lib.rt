@@ -1,5 +1,7 @@
 //! The wait limits of each resource of a bank, as lines.
 #![tactic(auto)]
 
+/// The wait limits of all resources.
 pub mod limits;
+/// The line of one resource.
 pub mod line;

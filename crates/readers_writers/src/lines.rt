@@ -17,6 +17,8 @@ pub struct ReadersWriters {
     ghost kept: { AllKeep lines count seats },
 }
 
+/// Its calls as a bank.
 pub mod calls;
 mod change;
+/// A bank is made from a plan.
 pub mod make;

@@ -13,7 +13,9 @@ pub enum Asked {
 /// says whether the other counts.
 #[derive(Clone, Copy, Debug, PartialEq, Eq)]
 pub struct Issued {
+    /// Its task.
     pub task: u32,
+    /// Whether it holds; else it waits.
     pub holds: bool,
 }
 
@@ -21,6 +23,8 @@ pub struct Issued {
 /// issued thereby.
 #[derive(Clone, Copy, Debug, PartialEq, Eq)]
 pub struct Finished {
+    /// The ticks on which the job was blocked.
     pub blocked: u32,
+    /// The request that was issued, if there is one.
     pub issued: Option<Issued>,
 }

@@ -2,6 +2,9 @@
 //! and what every run of calls keeps.
 #![tactic(auto)]
 
+/// What calls are answered.
 pub mod answer;
+/// Why a call is refused.
 pub mod refusal;
+/// The states of a task, and its record.
 pub mod task;

@@ -40,7 +40,7 @@ impl Refusal {
     pub fn number(self) -> u32
         ensures { result ≡ number self }
     {
-        // a match, since the numbers are the format and no derive gives them
+        // the numbers are the format: they are written out here and follow no order of the cases
         match self {
             Refusal::NoTask => 1,
             Refusal::NoResource => 2,

@@ -3,7 +3,9 @@ use bank::request::Mode;
 /// A resource and the mode in which it is asked for.
 #[derive(Clone, Copy, Debug, PartialEq, Eq)]
 pub struct Wanted {
+    /// The resource, from 0.
     pub resource: u32,
+    /// The mode.
     pub mode: Mode,
 }
 
@@ -26,9 +28,13 @@ pub enum State {
 /// has held, and the ticks on which its job was blocked.
 #[derive(Clone, Copy, Debug, PartialEq, Eq)]
 pub struct Task {
+    /// Its state.
     pub state: State,
+    /// The release number of its unfinished job, and 0 where it has none.
     pub release: u32,
+    /// The ticks for which its request has held.
     pub used: u32,
+    /// The ticks on which its job was blocked.
     pub blocked: u32,
 }
 

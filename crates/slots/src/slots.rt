@@ -15,6 +15,8 @@ pub struct Slots {
     ghost kept: { Kept seats lines },
 }
 
+/// Its calls as a bank.
 pub mod calls;
 mod change;
+/// A bank is made from a plan.
 pub mod make;

@@ -1,9 +1,15 @@
 //! The table of task records, and the places of its jobs: which run, which are among the first, which is next.
 #![tactic(auto)]
 
+/// The holder nearest its end.
 pub mod holders;
+/// Which jobs run, and which are among the first.
 pub mod jobs;
+/// The job whose request is issued next.
 pub mod next;
+/// The records of all tasks.
 pub mod records;
+/// Which jobs are looked at.
 pub mod selection;
+/// The records with the plan of their tasks.
 pub mod table;

@@ -8,6 +8,7 @@ use rules::task::Task;
 /// lent at a time, so that what is done to it changes no other.
 #[derive(Debug, PartialEq, Eq, Drop)]
 pub struct Records<T> {
+    /// The record of each task.
     pub rows: [T; 64],
 }
 

@@ -7,8 +7,11 @@ use rules::task::State;
 /// each case selects.
 #[derive(Clone, Copy, Debug, PartialEq, Eq)]
 pub enum Selection {
+    /// The jobs that are not finished.
     Unfinished,
+    /// Those that are going or hold.
     Ready,
+    /// Those whose request is not issued yet.
     HeldBack,
 }
 

@@ -9,8 +9,11 @@ use rules::task::Task;
 /// has a declared length, and it has held for no more ticks than that.
 #[derive(Clone, Copy, Debug, PartialEq, Eq)]
 pub struct Table<'a> {
+    /// The plan.
     pub plan: &'a Plan,
+    /// How many tasks there are.
     pub tasks: usize,
+    /// Their records, each at the place of its task.
     pub rows: &'a [Task; 64],
     ghost all_records: { length rows.now ≡ 64 },
     ghost known_tasks: { tasks ≤ length (plan_contents plan.now).tasks },

@@ -1,7 +1,11 @@
 //! What plans and events share: decimal numbers, lines, memory handed in, refusals.
 #![tactic(auto)]
 
+/// The first line of a text.
 pub mod line;
+/// Bytes written into memory that is handed in.
 pub mod memory;
+/// Decimal numbers.
 pub mod number;
+/// Why a line or a text is refused.
 pub mod refusal;
