@@ -1,4 +1,4 @@
-//! The worked examples hold, in one proof over their list.
+//! Worked examples, each by its name, and one proof that all of them hold.
 #![tactic(auto)]
 
 ghost use Rattle.examples.specs.Examples.{AllHold, EachIsIn};

@@ -1,4 +1,4 @@
--- What every run keeps is kept when a job ends; at most one held-back job thereby comes among the first.
+-- What every run keeps is kept when a job ends: of the jobs held back, one at most is then among the first.
 use Rattle.std.proofs.Common.{◌≡◌, ℕ, ◌<◌, ◌≤◌, Bool, true, false, cond, ◌&&◌, eqb, is_some, Some, None, Option, unwrap_or, sym, refl, ap, ◌∙◌, subst, ⊎_elim}
 use Rattle.std.proofs.lemmas.Bool.{eqb-true, eqb-false, eq-eqb, ne_eqb, and_parts, and_from, false≢true, both_ways, cases_eq, cases_Bool}
 use Rattle.bank.specs.Meaning.{Lists}

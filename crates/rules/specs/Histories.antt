@@ -26,7 +26,7 @@ History = List Moment
 
 -- What a call does for task t.
 
--- an accepted release begins a job, and an accepted finish ends it
+-- a release that is taken begins the job of its task, and a finish that is taken ends it
 abbrev pub begins : ℕ → Event → Bool
 begins t made = false
 begins t (released u (Ok n)) = u == t
@@ -45,7 +45,7 @@ ends t (finished u (Ok f)) = u == t
 ends t (finished u (Err why)) = false
 ends t (ticked x) = false
 
--- an accepted ask makes a request
+-- an ask that is taken makes a request of its task
 abbrev pub asks : ℕ → Event → Option Wanted
 asks t made = None
 asks t (released u x) = None

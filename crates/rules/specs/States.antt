@@ -37,7 +37,7 @@ is_holding (HeldBack w) = false
 is_holding (Waiting w) = false
 is_holding (Holding w) = true
 
--- a going or holding job is ready
+-- its job could use a processor: it waits for nothing
 abbrev pub is_ready : State → Bool
 is_ready Idle = false
 is_ready Going = true
