@@ -19,8 +19,8 @@ use Rattle.dry_run.specs.Made.{meaning, setup, snapshot, MadeFrom, Step}
 use Rattle.dry_run.specs.Said.{behind_plan, plan_told, refused_text, verdict}
 
 -- the lines so far, the history of their calls, where the controller stands, and what was printed
--- of them. A line that is an event is a call, and it is printed with the answer; a line that is none
--- is printed with the number of the question that is answered no, and is no call
+-- of them. A line that is an event is a call, and it is printed with the answer; a line that is
+-- none is printed with the number of the question that is answered no, and is no call
 pub data Replays (first : Controller Banks meaning) :
     List (List ℕ) → History → Controller Banks meaning → List ℕ → Type 0 where
   none : Replays first [] (moment made (snapshot first) ∷ []) first []
