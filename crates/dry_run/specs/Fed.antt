@@ -1,4 +1,5 @@
 -- A dry run in the middle of its input.
+use Prim.Native.Char.{code}
 use Rattle.std.specs.Prelude.{◌≡◌, ℕ, ◌+◌, ◌*◌, ◌<◌, Bool, true, false, List, [], ◌∷◌, ◌++◌, length, take, Some, None, Ok, Err, Option, Result, ◌==◌, nat_le}
 use Rattle.std.specs.List.{AllByRecursion}
 use Rattle.controller.specs.declared.controller.Controller.{Controller}
@@ -20,7 +21,7 @@ use Rattle.dry_run.specs.declared.run.Phase.TheVariants.{Plan, Events, Over}
 -- whether a line begins behind these bytes
 abbrev pub line_begins : Bool → List ℕ → Bool
 line_begins begins [] = begins
-line_begins begins (b ∷ bs) = line_begins (b == 10) bs
+line_begins begins (b ∷ bs) = line_begins (b == code "\n") bs
 
 -- the plan has not ended: this text of it is kept, and a line begins behind it or not
 pub record Planning (text : List ℕ) (begun : Bool) (input out : List ℕ) : Type 0 where
@@ -30,18 +31,19 @@ pub record Planning (text : List ℕ) (begun : Bool) (input out : List ℕ) : Ty
   pub begins : begun ≡ line_begins true input
   pub nothing : out ≡ []
 
--- the plan was accepted, and lines of events come behind it: the whole ones were answered, and the last one goes on
+-- the plan was accepted, and lines of events come behind it: the whole ones were answered, and the
+-- last one goes on
 pub record Replaying (controller : Controller Banks meaning) (kept input out : List ℕ) : Type 0 where
   pub text : List ℕ
   pub contents : Contents
   pub events : List ℕ
   pub lines : List (List ℕ)
   pub line : List ℕ
-  pub bytes : input ≡ text ++ (10 ∷ events)
-  pub found : (more : List ℕ) → plan_part (text ++ (10 ∷ more)) ≡ Some text
+  pub bytes : input ≡ text ++ (code "\n" ∷ events)
+  pub found : (more : List ℕ) → plan_part (text ++ (code "\n" ∷ more)) ≡ Some text
   pub accepted : read_text text ≡ Ok contents
   pub cut : (more : List ℕ) → lines_of (events ++ more) ≡ lines ++ lines_of (line ++ more)
-  pub plain : AllByRecursion (λ b. (b == 10) ≡ false) line
+  pub plain : AllByRecursion (λ b. (b == code "\n") ≡ false) line
   pub held : kept ≡ take 16 line
   pub plays : Plays contents controller lines out
 
@@ -74,12 +76,12 @@ pub record Takes (d d' : DryRun) (piece old : List ℕ) (at end : ℕ) (new : Li
   pub law : (input out : List ℕ) → Fed d input out → Fed d' (input ++ piece) (out ++ printed)
 
 -- is there room for all that a piece may print?
-abbrev pub room_questions : List ℕ → List ℕ → List Question
-room_questions piece old = ask 23 (nat_le (10 * length piece + 1040) (length old)) ∷ []
+abbrev pub piece_questions : List ℕ → List ℕ → List Question
+piece_questions piece old = ask 23 (nat_le (10 * length piece + 1040) (length old)) ∷ []
 
 abbrev pub Feeds : DryRun → List ℕ → List ℕ → Result ℕ Refusal → DryRun → List ℕ → Type 0
-Feeds d piece old (Ok n) d' new = (first_no (room_questions piece old) ≡ None) × Takes d d' piece old 0 n new
-Feeds d piece old (Err why) d' new = (first_no (room_questions piece old) ≡ Some (number why)) × (d' ≡ d) × (new ≡ old)
+Feeds d piece old (Ok n) d' new = (first_no (piece_questions piece old) ≡ None) × Takes d d' piece old 0 n new
+Feeds d piece old (Err why) d' new = (first_no (piece_questions piece old) ≡ Some (number why)) × (d' ≡ d) × (new ≡ old)
 
 -- the input is over. Nothing else can be printed of the same bytes; with nothing behind its plan, what the plan says is all that was printed
 pub record Ends (d : DryRun) (old : List ℕ) (n : ℕ) (new : List ℕ) : Type 0 where
