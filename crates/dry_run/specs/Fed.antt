@@ -80,16 +80,24 @@ abbrev pub piece_questions : List ℕ → List ℕ → List Question
 piece_questions piece old = ask 23 (nat_le (10 * length piece + 1040) (length old)) ∷ []
 
 abbrev pub Feeds : DryRun → List ℕ → List ℕ → Result ℕ Refusal → DryRun → List ℕ → Type 0
-Feeds d piece old (Ok n) d' new = (first_no (piece_questions piece old) ≡ None) × Takes d d' piece old 0 n new
-Feeds d piece old (Err why) d' new = (first_no (piece_questions piece old) ≡ Some (number why)) × (d' ≡ d) × (new ≡ old)
+Feeds d piece old (Ok n) d' new =
+    (first_no (piece_questions piece old) ≡ None)
+    × Takes d d' piece old 0 n new
+Feeds d piece old (Err why) d' new =
+    (first_no (piece_questions piece old) ≡ Some (number why))
+    × (d' ≡ d)
+    × (new ≡ old)
 
--- the input is over. Nothing else can be printed of the same bytes; with nothing behind its plan, what the plan says is all that was printed
+-- the input is over. Nothing else can be printed of the same bytes; with nothing behind its plan,
+-- what the plan says is all that was printed
 pub record Ends (d : DryRun) (old : List ℕ) (n : ℕ) (new : List ℕ) : Type 0 where
   pub printed : List ℕ
   pub laid : Laid old 0 printed n new
   pub law : (input out : List ℕ) → Fed d input out → Printed input (out ++ printed)
-  pub only : (input out other : List ℕ) → Fed d input out → Printed input other → other ≡ out ++ printed
-  pub alone : (input out : List ℕ) → Fed d input out → behind_plan input ≡ [] → out ++ printed ≡ said (verdict input)
+  pub only : (input out other : List ℕ) → Fed d input out → Printed input other
+      → other ≡ out ++ printed
+  pub alone : (input out : List ℕ) → Fed d input out → behind_plan input ≡ []
+      → out ++ printed ≡ said (verdict input)
 
 -- 64 bytes are enough at the end
 abbrev pub end_questions : List ℕ → List Question
