@@ -1,5 +1,5 @@
 -- A slot resource worked by calls, from its parties alone.
-use Rattle.std.proofs.Common.{◌≡◌, ℕ, Bool, true, false, List, [], ◌∷◌, ◌++◌, length, None, Ok, Err, Option, Result, nat_lt, sym, refl, ap, ◌∙◌, arith, slice_index}
+use Rattle.std.proofs.Common.{◌≡◌, ℕ, Bool, false, List, [], ◌∷◌, ◌++◌, length, None, Ok, Err, Option, Result, nat_lt, sym, refl, ap, ◌∙◌, arith, slice_index}
 use Rattle.std.specs.Prelude.{⊤}
 use Rattle.std.specs.List.{remove}
 use Rattle.std.proofs.lemmas.Option.{none-some}
@@ -14,7 +14,7 @@ use Rattle.slots.specs.Of.{holders_of, parties_of, told_of, active_of, MadeFrom}
 use Rattle.slots.specs.Rows.{place}
 use Rattle.slots.specs.declared.slots.Slots.{Slots}
 use Rattle.examples.specs.Banks.{slots_bank, SlotsWork}
-use Rattle.examples.specs.Steps.{Step, enters_holding, enters_waiting, leaves, EnterGives, LeaveGives, Works}
+use Rattle.examples.specs.Steps.{Step, enters, leaves, EnterGives, LeaveGives, Works}
 
 -- one resource for k with m seats, and who is active there
 pub record Stands (m k : ℕ) (ps : List ℕ) (s : Slots) : Type 0 where
@@ -35,14 +35,9 @@ leave_asks n k ps p = first_no (leave_questions (told n 0 k) 0 p (requests k ps)
 -- each call is taken, with this answer, and these requests are active then
 abbrev pub Goes : ℕ → ℕ → List ℕ → List Step → Type 0
 Goes m k ps [] = ⊤
-Goes m k ps (enters_holding p w xs ∷ steps) =
+Goes m k ps (enters p w holds xs ∷ steps) =
     (enter_asks 1 m k ps p w ≡ None)
-    × (nat_lt (length ps) k ≡ true)
-    × (requests k (ps ++ p ∷ []) ≡ xs)
-    × Goes m k (ps ++ p ∷ []) steps
-Goes m k ps (enters_waiting p w xs ∷ steps) =
-    (enter_asks 1 m k ps p w ≡ None)
-    × (nat_lt (length ps) k ≡ false)
+    × (nat_lt (length ps) k ≡ holds)
     × (requests k (ps ++ p ∷ []) ≡ xs)
     × Goes m k (ps ++ p ∷ []) steps
 Goes m k ps (leaves p xs ∷ steps) =
@@ -90,11 +85,7 @@ module _ (m k : ℕ) (ps : List ℕ) (s : Slots) (st : Stands m k ps s) where
 
 pub works : (m k : ℕ) (ps : List ℕ) (s : Slots) (steps : List Step) → Stands m k ps s → Goes m k ps steps → Works slots_bank s steps
 works m k ps s [] st g = tt
-works m k ps s (enters_holding p w xs ∷ steps) st g = (
-  enter_asked m k ps s st p w ∙ g.0,
-  λ a t e. let r = entered m k ps s st t p w a g.0 e in (r.0 ∙ ap Ok g.1, active m k (ps ++ p ∷ []) t r.1 ∙ g.2, works m k (ps ++ p ∷ []) t steps r.1 g.3),
-)
-works m k ps s (enters_waiting p w xs ∷ steps) st g = (
+works m k ps s (enters p w holds xs ∷ steps) st g = (
   enter_asked m k ps s st p w ∙ g.0,
   λ a t e. let r = entered m k ps s st t p w a g.0 e in (r.0 ∙ ap Ok g.1, active m k (ps ++ p ∷ []) t r.1 ∙ g.2, works m k (ps ++ p ∷ []) t steps r.1 g.3),
 )

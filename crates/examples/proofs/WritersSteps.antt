@@ -1,5 +1,5 @@
 -- A reader-writer resource worked by calls, from its entries alone.
-use Rattle.std.proofs.Common.{◌≡◌, ℕ, Bool, true, false, List, [], ◌∷◌, None, Ok, Err, Option, Result, sym, refl, ap, ◌∙◌}
+use Rattle.std.proofs.Common.{◌≡◌, ℕ, Bool, List, [], ◌∷◌, None, Ok, Err, Option, Result, sym, refl, ap, ◌∙◌}
 use Rattle.std.specs.Prelude.{⊤}
 use Rattle.std.proofs.lemmas.Option.{none-some}
 use Rattle.text.specs.Questions.{first_no}
@@ -16,7 +16,7 @@ use Rattle.readers_writers.specs.Told.{told}
 use Rattle.readers_writers.specs.declared.entry.Entry.{Entry}
 use Rattle.readers_writers.specs.declared.lines.ReadersWriters.{ReadersWriters}
 use Rattle.examples.specs.Banks.{writers_bank, WritersWork}
-use Rattle.examples.specs.Steps.{Step, enters_holding, enters_waiting, leaves, EnterGives, LeaveGives, Works}
+use Rattle.examples.specs.Steps.{Step, enters, leaves, EnterGives, LeaveGives, Works}
 
 -- one resource with m seats, and its entries
 pub record Stands (m : ℕ) (es : List Entry) (b : ReadersWriters) : Type 0 where
@@ -33,14 +33,9 @@ leave_asks n es p = first_no (leave_questions (told n 0) 0 p (requests es))
 -- each call is taken, with this answer, and these requests are active then
 abbrev pub Goes : ℕ → List Entry → List Step → Type 0
 Goes m es [] = ⊤
-Goes m es (enters_holding p w xs ∷ steps) =
+Goes m es (enters p w holds xs ∷ steps) =
     (enter_asks 1 m es p w ≡ None)
-    × (admits es w ≡ true)
-    × (requests (entered_list es p w) ≡ xs)
-    × Goes m (entered_list es p w) steps
-Goes m es (enters_waiting p w xs ∷ steps) =
-    (enter_asks 1 m es p w ≡ None)
-    × (admits es w ≡ false)
+    × (admits es w ≡ holds)
     × (requests (entered_list es p w) ≡ xs)
     × Goes m (entered_list es p w) steps
 Goes m es (leaves p xs ∷ steps) =
@@ -84,11 +79,7 @@ module _ (m : ℕ) (es : List Entry) (b : ReadersWriters) (st : Stands m es b) w
 
 pub works : (m : ℕ) (es : List Entry) (b : ReadersWriters) (steps : List Step) → Stands m es b → Goes m es steps → Works writers_bank b steps
 works m es b [] st g = tt
-works m es b (enters_holding p w xs ∷ steps) st g = (
-  enter_asked m es b st p w ∙ g.0,
-  λ a d e. let r = entered m es b st d p w a g.0 e in (r.0 ∙ ap Ok g.1, active m (entered_list es p w) d r.1 ∙ g.2, works m (entered_list es p w) d steps r.1 g.3),
-)
-works m es b (enters_waiting p w xs ∷ steps) st g = (
+works m es b (enters p w holds xs ∷ steps) st g = (
   enter_asked m es b st p w ∙ g.0,
   λ a d e. let r = entered m es b st d p w a g.0 e in (r.0 ∙ ap Ok g.1, active m (entered_list es p w) d r.1 ∙ g.2, works m (entered_list es p w) d steps r.1 g.3),
 )

@@ -1,5 +1,6 @@
 -- What it means that each worked example holds.
-use Rattle.std.specs.Prelude.{◌≡◌, ℕ, List, [], ◌∷◌, ◌++◌, Some, None, Err, codes, Option}
+use Rattle.std.specs.Prelude.{◌≡◌, ℕ, List, [], ◌∷◌, ◌++◌, true, false, Some, None, Err, codes}
+use Rattle.std.specs.Prelude.{Option}
 use Rattle.std.specs.List.{AllByRecursion, Contains}
 use Rattle.bank.specs.declared.request.Mode.TheVariants.{Write, Read}
 use Rattle.bank.specs.declared.request.Request.{Request}
@@ -10,7 +11,7 @@ use Rattle.plan_text.specs.Texts.{read_text}
 use Rattle.text.specs.Questions.{first_no}
 use Rattle.examples.specs.Banks.{SlotsWork, WritersWork}
 use Rattle.examples.specs.Run.{text as run_text, plan as run_plan, valve_steps}
-use Rattle.examples.specs.Steps.{Step, enters_holding, enters_waiting, leaves, holder, waiter}
+use Rattle.examples.specs.Steps.{Step, enters, leaves, holder, waiter}
 use Rattle.examples.specs.declared.example.Example.{Example}
 use Rattle.examples.specs.declared.example.Example.TheVariants.{NoLines, NoNewline}
 use Rattle.examples.specs.declared.example.Example.TheVariants.{EightProcessors, NineProcessors}
@@ -45,11 +46,11 @@ two_wait = waiter 2 Write 1 1 ∷ waiter 3 Write 1 2 ∷ []
 -- parties 0 to 4 enter
 abbrev pub five : List Step
 five =
-    enters_holding 0 Write (holder 0 Write ∷ [])
-    ∷ enters_holding 1 Write two_hold
-    ∷ enters_waiting 2 Write (two_hold ++ waiter 2 Write 1 1 ∷ [])
-    ∷ enters_waiting 3 Write (two_hold ++ two_wait)
-    ∷ enters_waiting 4 Write (two_hold ++ two_wait ++ waiter 4 Write 2 1 ∷ [])
+    enters 0 Write true (holder 0 Write ∷ [])
+    ∷ enters 1 Write true two_hold
+    ∷ enters 2 Write false (two_hold ++ waiter 2 Write 1 1 ∷ [])
+    ∷ enters 3 Write false (two_hold ++ two_wait)
+    ∷ enters 4 Write false (two_hold ++ two_wait ++ waiter 4 Write 2 1 ∷ [])
     ∷ []
 
 -- and then 0 leaves
@@ -70,9 +71,9 @@ writers_plan =
 -- 0 reads, 1 writes, 2 reads
 abbrev pub mixed : List Step
 mixed =
-    enters_holding 0 Read (holder 0 Read ∷ [])
-    ∷ enters_waiting 1 Write (holder 0 Read ∷ waiter 1 Write 1 1 ∷ [])
-    ∷ enters_waiting 2 Read (holder 0 Read ∷ waiter 1 Write 1 1 ∷ waiter 2 Read 2 1 ∷ [])
+    enters 0 Read true (holder 0 Read ∷ [])
+    ∷ enters 1 Write false (holder 0 Read ∷ waiter 1 Write 1 1 ∷ [])
+    ∷ enters 2 Read false (holder 0 Read ∷ waiter 1 Write 1 1 ∷ waiter 2 Read 2 1 ∷ [])
     ∷ []
 
 -- and then 0 leaves
@@ -82,9 +83,9 @@ mixed_and_leave = mixed ++ leaves 0 (holder 1 Write ∷ waiter 2 Read 1 1 ∷ []
 -- 0, 1 and 2 write
 abbrev pub writes : List Step
 writes =
-    enters_holding 0 Write (holder 0 Write ∷ [])
-    ∷ enters_waiting 1 Write (holder 0 Write ∷ waiter 1 Write 2 1 ∷ [])
-    ∷ enters_waiting 2 Write (holder 0 Write ∷ waiter 1 Write 2 1 ∷ waiter 2 Write 4 1 ∷ [])
+    enters 0 Write true (holder 0 Write ∷ [])
+    ∷ enters 1 Write false (holder 0 Write ∷ waiter 1 Write 2 1 ∷ [])
+    ∷ enters 2 Write false (holder 0 Write ∷ waiter 1 Write 2 1 ∷ waiter 2 Write 4 1 ∷ [])
     ∷ []
 
 abbrev pub Holds : Example → Type 0

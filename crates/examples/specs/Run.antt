@@ -19,7 +19,7 @@ use Rattle.rules.specs.declared.task.State.TheVariants.{Idle, Going, HeldBack, W
 use Rattle.rules.specs.declared.task.Wanted.{Wanted}
 use Rattle.slots.specs.Lines.{turn_limit}
 use Rattle.text.specs.Questions.{first_no}
-use Rattle.examples.specs.Steps.{Step, enters_holding, enters_waiting, leaves, holder, waiter}
+use Rattle.examples.specs.Steps.{Step, enters, leaves, holder, waiter}
 
 abbrev pub text : List ℕ
 text = codes "C,2\nS,1\nT,0\nT,0\nT,0\nL,0,0,2\nL,1,0,1\nL,2,0,1\n"
@@ -229,10 +229,10 @@ CallsHold =
 -- the requests of the run, as they are issued and given back
 abbrev pub valve_steps : List Step
 valve_steps =
-    enters_holding 0 Write (alone 0)
-    ∷ enters_waiting 1 Write (before 0 1)
+    enters 0 Write true (alone 0)
+    ∷ enters 1 Write false (before 0 1)
     ∷ leaves 0 (alone 1)
-    ∷ enters_waiting 2 Write (before 1 2)
+    ∷ enters 2 Write false (before 1 2)
     ∷ leaves 1 (alone 2)
     ∷ leaves 2 none
     ∷ []

@@ -1,5 +1,5 @@
 -- A bank worked by calls at its resource 0, one after another.
-use Rattle.std.specs.Prelude.{◌≡◌, ℕ, Bool, true, false, List, [], ◌∷◌, None, Ok, Result, ⊤}
+use Rattle.std.specs.Prelude.{◌≡◌, ℕ, Bool, List, [], ◌∷◌, None, Ok, Result, ⊤}
 use Rattle.text.specs.Questions.{first_no}
 use Rattle.bank.specs.Meaning.{Enters, Leaves}
 use Rattle.bank.specs.Questions.{enter_questions, leave_questions}
@@ -19,8 +19,7 @@ waiter p m turns departures = record { party = p; mode = m; standing = Waits tur
 -- a call that is accepted, with its answer, and the active requests after it
 pub data Step : Type 0 where
   -- a party enters in a mode, and holds, or waits
-  enters_holding : (party : ℕ) → Mode → List Request → Step
-  enters_waiting : (party : ℕ) → Mode → List Request → Step
+  enters : (party : ℕ) → Mode → (holds : Bool) → List Request → Step
   -- a party that holds leaves
   leaves : (party : ℕ) → List Request → Step
 
@@ -49,14 +48,10 @@ module _ {X : Type 0} (b : Ghosts X) where
   -- each call is taken, and whatever it gives, the answer and the active requests are these
   abbrev pub Works : X → List Step → Type 0
   Works x [] = ⊤
-  Works x (enters_holding p m xs ∷ steps) =
+  Works x (enters p m holds xs ∷ steps) =
       MayEnter x p m
       × ((answer : Result Bool Refusal) (y : X) → EnterGives p m answer x y
-      → (answer ≡ Ok true) × (b.active y 0 ≡ xs) × Works y steps)
-  Works x (enters_waiting p m xs ∷ steps) =
-      MayEnter x p m
-      × ((answer : Result Bool Refusal) (y : X) → EnterGives p m answer x y
-      → (answer ≡ Ok false) × (b.active y 0 ≡ xs) × Works y steps)
+      → (answer ≡ Ok holds) × (b.active y 0 ≡ xs) × Works y steps)
   Works x (leaves p xs ∷ steps) =
       MayLeave x p
       × ((answer : Result (Unit {0}) Refusal) (y : X) → LeaveGives p answer x y
