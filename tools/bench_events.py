@@ -18,11 +18,11 @@ PLAN = "C,8\n" * 8 + "S,4\n" * 8 + "W\n" * 8 + "".join(f"T,{t % 8}\n" for t in r
 PLAN += "".join(f"L,{t},{r},10000\n" for t in range(TASKS) for r in range(16)) + "\n"
 
 
-def mixed():
-    """Rounds in which every task works once."""
+def mixed(ticks=16):
+    """A round in which every task works once, with so many ticks in it."""
     row = [f"N,{t}" for t in range(TASKS)]
     row += [f"A,{t},{t % 16},{'R' if t % 16 > 7 and t % 3 else 'W'}" for t in range(TASKS)]
-    row += ["K"] * 16
+    row += ["K"] * ticks
     row += [f"{kind},{t}" for t in range(TASKS) for kind in "GF"]
     return row
 

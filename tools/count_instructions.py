@@ -14,14 +14,15 @@ from pathlib import Path
 import bench_events
 import bench_plan
 
+# a busy field is rounds in which every task works once: requests wait, and jobs come late
 KINDS = {
-    "every task works in turn": bench_events.mixed() * 20,
-    "ticks, nobody holds": ["K"] * 4000,
-    "ticks, 16 hold": [f"N,{t}" for t in range(16)] + [f"A,{t},{t},W" for t in range(16)] + ["K"] * 4000,
-    "release and finish": ["N,5", "F,5"] * 2000,
-    "release, ask, give and finish": ["N,5", "A,5,3,W", "G,5", "F,5"] * 1000,
-    "a give that is refused": ["G,5"] * 4000,
-    "no event": ["?"] * 4000,
+    "a busy field": bench_events.mixed(ticks=64) * 20,
+    "ticks, nobody holds": ["K"] * 5000,
+    "ticks, 16 hold": [f"N,{t}" for t in range(16)] + [f"A,{t},{t},W" for t in range(16)] + ["K"] * 5000,
+    "release and finish": ["N,5", "F,5"] * 2500,
+    "release, ask, give and finish": ["N,5", "A,5,3,W", "G,5", "F,5"] * 1250,
+    "a give that is refused": ["G,5"] * 5000,
+    "no event": ["?"] * 5000,
 }
 PLANS = 20
 
