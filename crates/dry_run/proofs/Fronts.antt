@@ -7,7 +7,6 @@ use Rattle.std.specs.Io.{StartsWith}
 use Rattle.std.specs.Io.KnownBytes.{Appends, Consumes, IsAtEnd}
 use Rattle.controller.specs.declared.controller.Controller.{Controller}
 use Rattle.event.specs.Answers.{line_text, unreadable_text}
-use Rattle.limits.specs.Lines.{limits_text}
 use Rattle.plan.specs.Contents.{Contents}
 use Rattle.plan_text.specs.Texts.{Verdict}
 use Rattle.rules.specs.Histories.{History}
@@ -17,7 +16,7 @@ use Rattle.dry_run.specs.Fed.{FedIn, Fed, Laid}
 use Rattle.dry_run.specs.Made.{meaning}
 use Rattle.dry_run.specs.Played.{Has, Played, PlayedInPart}
 use Rattle.dry_run.specs.Plays.{Replays, none, unreadable, answered, Plays, PrintedBy, Printed}
-use Rattle.dry_run.specs.Said.{part_verdict, verdict, behind_plan, plan_told}
+use Rattle.dry_run.specs.Said.{part_verdict, verdict, behind_plan, preamble_text}
 use Rattle.dry_run.specs.declared.run.DryRun.{DryRun}
 use Rattle.dry_run.specs.declared.run.Phase.{Phase}
 use Rattle.dry_run.specs.declared.run.Phase.TheVariants.{Plan, Events, Over}
@@ -85,10 +84,10 @@ upto first _ lines more _ _ _ (unreadable {lines = all} {h = h} {k = k} {out = o
     (λ (empty : more ≡ []). all_lines first _ lines more _ _ _ (unreadable line why r u) e empty)
     (λ (less, last, f). longer first lines out (unreadable_text why) (upto first all lines less h k out r (one_less all lines more less line last e f)))
     (last_of more)
-upto first _ lines more _ _ _ (answered {lines = all} {h = h} {k = k} {out = out} line event call next r u of step) e =
+upto first _ lines more _ _ _ (answered {lines = all} {h = h} {k = k} {out = out} line event answer r u of steps) e =
     ⊎_elim
-    (λ (empty : more ≡ []). all_lines first _ lines more _ _ _ (answered line event call next r u of step) e empty)
-    (λ (less, last, f). longer first lines out (line_text call) (upto first all lines less h k out r (one_less all lines more less line last e f)))
+    (λ (empty : more ≡ []). all_lines first _ lines more _ _ _ (answered line event answer r u of steps) e empty)
+    (λ (less, last, f). longer first lines out (line_text answer) (upto first all lines less h k out r (one_less all lines more less line last e f)))
     (last_of more)
 
 -- two runs of one plan, one of them over more lines
@@ -96,7 +95,7 @@ front_plays : (c : Contents) (k j : Controller Banks meaning) (lines more : List
 front_plays c k j lines more out whole p q =
     let u = upto q.begins (lines ++ more) lines more q.history j q.answers q.replays refl in
     let same : u.printed ≡ p.answers = (replays_same c q.begins p.begins (starts_same c q.begins p.begins q.controller p.controller) lines lines u.history p.history u.stands k u.printed p.answers u.replays p.replays refl).1 in
-    let text = limits_text (plan_told c) c in
+    let text = preamble_text c in
     subst (λ x. Front x whole) (sym p.printed) (subst (λ x. Front (text ++ p.answers) x) (sym q.printed) (front_behind text p.answers q.answers (subst (λ x. Front x q.answers) same u.front)))
 
 -- THE INPUT

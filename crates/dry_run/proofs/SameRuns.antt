@@ -6,10 +6,9 @@ use Rattle.std.proofs.lemmas.Option.{none-some, same_Some}
 use Rattle.bank.specs.Meaning.{Lists}
 use Rattle.controller.specs.Banks.{BankChanges}
 use Rattle.controller.specs.declared.controller.Controller.{Controller}
-use Rattle.event.specs.Answers.{event_of, line_text, unreadable_text}
+use Rattle.event.specs.Answers.{calls_of, event_of, line_text, unreadable_text}
 use Rattle.event.specs.Lines.{read_event, event_questions}
 use Rattle.event.specs.declared.event.Event.{Event}
-use Rattle.limits.specs.Lines.{limits_text}
 use Rattle.bank.specs.Questions.{Told}
 use Rattle.plan.specs.Contents.{Contents, resource_count}
 use Rattle.plan_text.specs.Texts.{Verdict}
@@ -23,8 +22,8 @@ use Rattle.text.specs.Refusals.{number}
 use Rattle.text.specs.declared.refusal.Refusal.{Refusal}
 use Rattle.dry_run.specs.Banks.{Banks}
 use Rattle.dry_run.specs.Made.{meaning, setup, snapshot, MadeFrom, Step}
-use Rattle.dry_run.specs.Plays.{Replays, none, unreadable, answered, PrintedBy, Printed}
-use Rattle.dry_run.specs.Said.{plan_told, verdict}
+use Rattle.dry_run.specs.Plays.{Replays, StepsBy, none, unreadable, answered, PrintedBy, Printed}
+use Rattle.dry_run.specs.Said.{preamble_text, verdict}
 use Rattle.dry_run.proofs.SameBanks.{SameBanks, same_active, same_made, same_told}
 use Rattle.dry_run.proofs.SameCalls.{call_same}
 
@@ -83,6 +82,35 @@ step_same k j same e x y f g p q a b =
       both.0.text,
     )
 
+-- A ROW OF CALLS
+
+-- the same is called, and the same is printed
+abbrev SameAsked : List Call → List Call → Type 0
+SameAsked [] [] = Unit {0}
+SameAsked (x ∷ xs) (y ∷ ys) = ((e : Event) × (event_of x ≡ Some e) × (event_of y ≡ Some e)) × SameAsked xs ys
+SameAsked _ _ = ⊥
+
+abbrev SameTexts : List Call → List Call → Type 0
+SameTexts [] [] = Unit {0}
+SameTexts (x ∷ xs) (y ∷ ys) = (line_text x ≡ line_text y) × SameTexts xs ys
+SameTexts _ _ = ⊥
+
+steps_same : (xs ys : List Call) (k j : Controller Banks meaning) → Same k j → SameAsked xs ys → (h i g f : History) (p q : Controller Banks meaning) → StepsBy xs k h p g → StepsBy ys j i q f → Same p q × SameTexts xs ys
+steps_same [] [] k j same asked h i g f p q a b = (subst (λ x. Same x q) (sym a.0) (subst (Same k) (sym b.0) same), tt)
+steps_same [] (y ∷ ys) k j same asked h i g f p q a b = absurd asked
+steps_same (x ∷ xs) [] k j same asked h i g f p q a b = absurd asked
+steps_same (x ∷ xs) (y ∷ ys) k j same ((e, called, again), asked) h i g f p q (next, step, steps) (next2, step2, steps2) =
+    let one = step_same k j same e x y called again next next2 step step2 in
+    let rest = steps_same xs ys next next2 one.0 asked _ _ g f p q steps steps2 in
+    (rest.0, (one.1, rest.1))
+
+-- those of one event with its answer
+calls_asked : (e : Event) (x y : Call) → event_of x ≡ Some e → event_of y ≡ Some e → SameAsked (calls_of x) (calls_of y)
+calls_asked e x y f g = ((e, f, g), tt)
+
+text_same : (x y : Call) → SameTexts (calls_of x) (calls_of y) → line_text x ≡ line_text y
+text_same x y same = same.0
+
 -- THE LINES
 
 pub snoc_same : (xs ys : List (List ℕ)) (x y : List ℕ) → xs ++ (x ∷ []) ≡ ys ++ (y ∷ []) → (xs ≡ ys) × (x ≡ y)
@@ -104,30 +132,30 @@ event_read line event why r u = none-some (number why) (sym (ap (λ o. first_no 
 pub replays_same : (c : Contents) (f g : Controller Banks meaning) → Same f g → (ls ms : List (List ℕ)) (h i : History) (k j : Controller Banks meaning) (o q : List ℕ) → Replays f ls h k o → Replays g ms i j q → ls ≡ ms → Same k j × (o ≡ q)
 replays_same c f g same _ _ _ _ _ _ _ _ none none e = (same, refl)
 replays_same c f g same _ _ _ _ _ _ _ _ none (unreadable {lines} line why r u) e = absurd (omega (arith, length_push lines line, ap length e))
-replays_same c f g same _ _ _ _ _ _ _ _ none (answered {lines} line event call next r u of step) e = absurd (omega (arith, length_push lines line, ap length e))
+replays_same c f g same _ _ _ _ _ _ _ _ none (answered {lines} line event answer r u of steps) e = absurd (omega (arith, length_push lines line, ap length e))
 replays_same c f g same _ _ _ _ _ _ _ _ (unreadable {lines} line why r u) none e = absurd (omega (arith, length_push lines line, ap length e))
-replays_same c f g same _ _ _ _ _ _ _ _ (answered {lines} line event call next r u of step) none e = absurd (omega (arith, length_push lines line, ap length e))
+replays_same c f g same _ _ _ _ _ _ _ _ (answered {lines} line event answer r u of steps) none e = absurd (omega (arith, length_push lines line, ap length e))
 replays_same c f g same _ _ _ _ _ _ _ _ (unreadable line why r u) (unreadable {out = q} other why2 s w) e =
     let parts = snoc_same _ _ line other e in
     let before = replays_same c f g same _ _ _ _ _ _ _ _ r s parts.0 in
     let one : number why ≡ number why2 = same_Some _ _ (sym u ∙ (ap (λ l. first_no (event_questions l)) parts.1 ∙ w)) in
     (before.0, ap (λ x. x ++ unreadable_text why) before.1 ∙ ap (λ x. q ++ x) (unreadable_same why why2 one))
-replays_same c f g same _ _ _ _ _ _ _ _ (unreadable line why r u) (answered other event call next s w of step) e =
+replays_same c f g same _ _ _ _ _ _ _ _ (unreadable line why r u) (answered other event answer s w of steps) e =
     let parts = snoc_same _ _ line other e in absurd (event_read line event why (ap read_event parts.1 ∙ w) u)
-replays_same c f g same _ _ _ _ _ _ _ _ (answered line event call next r u of step) (unreadable other why s w) e =
+replays_same c f g same _ _ _ _ _ _ _ _ (answered line event answer r u of steps) (unreadable other why s w) e =
     let parts = snoc_same _ _ line other e in absurd (event_read other event why (ap read_event (sym parts.1) ∙ u) w)
-replays_same c f g same _ _ _ _ _ _ _ _ (answered {k = k} line event call next r u of step) (answered {k = j} {out = q} other event2 call2 next2 s w of2 step2) e =
+replays_same c f g same _ _ _ _ _ _ _ _ (answered {k = k} line event answer r u of steps) (answered {k = j} {out = q} other event2 answer2 s w of2 steps2) e =
     let parts = snoc_same _ _ line other e in
     let before = replays_same c f g same _ _ _ _ _ _ _ _ r s parts.0 in
     let one : event2 ≡ event = same_Some _ _ (sym w ∙ (ap read_event (sym parts.1) ∙ u)) in
-    let after = step_same k j before.0 event call call2 of (of2 ∙ ap Some one) next next2 step step2 in
-    (after.0, ap (λ x. x ++ line_text call) before.1 ∙ ap (λ x. q ++ x) after.1)
+    let after = steps_same (calls_of answer) (calls_of answer2) k j before.0 (calls_asked event answer answer2 of (of2 ∙ ap Some one)) _ _ _ _ _ _ steps steps2 in
+    (after.0, ap (λ x. x ++ line_text answer) before.1 ∙ ap (λ x. q ++ x) (text_same answer answer2 after.1))
 
 -- WHOLE INPUTS
 
 prints_same : (v : Verdict) (input o q : List ℕ) → PrintedBy v input o → PrintedBy v input q → o ≡ q
 prints_same (Ok c) input o q (k, x) (j, y) =
-    x.printed ∙ (ap (λ t. limits_text (plan_told c) c ++ t) (replays_same c x.begins y.begins (starts_same c x.begins y.begins x.controller y.controller) _ _ _ _ _ _ _ _ x.replays y.replays refl).1 ∙ sym y.printed)
+    x.printed ∙ (ap (λ t. preamble_text c ++ t) (replays_same c x.begins y.begins (starts_same c x.begins y.begins x.controller y.controller) _ _ _ _ _ _ _ _ x.replays y.replays refl).1 ∙ sym y.printed)
 prints_same (Err why) input o q x y = x ∙ sym y
 
 pub one_print : (input o q : List ℕ) → Printed input o → Printed input q → o ≡ q

@@ -9,12 +9,11 @@ use Rattle.dry_run.specs.Banks.{Banks}
 use Rattle.event.specs.Answers.{unreadable_text}
 use Rattle.event.specs.Lines.{read_event, event_questions, ReadsEvent}
 use Rattle.event.specs.declared.event.Event.{Event}
-use Rattle.limits.specs.Lines.{limits_text}
 use Rattle.plan.specs.Contents.{Contents}
 use Rattle.plan_text.specs.Texts.{Verdict, read_text}
-use Rattle.rules.specs.Answers.{made}
+use Rattle.rules.specs.Answers.{Event as Call, made}
 use Rattle.rules.specs.Histories.{History}
-use Rattle.rules.specs.Runs.{LawfulRun, moment}
+use Rattle.rules.specs.Runs.{LawfulRun, Follows, moment}
 use Rattle.text.specs.Lines.{lines_of}
 use Rattle.text.specs.Memory.{overlay}
 use Rattle.text.specs.Questions.{ask, first_no}
@@ -22,10 +21,10 @@ use Rattle.text.specs.declared.refusal.Refusal.{Refusal}
 use Rattle.text.specs.declared.refusal.Refusal.TheVariants.{NotEvent}
 use Rattle.text.proofs.Writes.{overlay_none, overlay_more}
 use Rattle.dry_run.specs.Fed.{Planning, Replaying, FedIn, Fed, Laid, Takes, Ends}
-use Rattle.dry_run.specs.Steps.{LineDone}
-use Rattle.dry_run.specs.Made.{meaning, snapshot, MadeFrom}
+use Rattle.dry_run.specs.Steps.{LineDone, RunsOn}
+use Rattle.dry_run.specs.Made.{meaning, setup, snapshot, MadeFrom, Step}
 use Rattle.dry_run.specs.Plays.{Replays, none, unreadable, answered, Plays, PrintedBy, Printed}
-use Rattle.dry_run.specs.Said.{before_empty, plan_part, part_verdict, verdict, refused_text, plan_told, behind_plan, said}
+use Rattle.dry_run.specs.Said.{before_empty, plan_part, part_verdict, verdict, refused_text, preamble_text, behind_plan, said}
 use Rattle.dry_run.specs.declared.run.DryRun.{DryRun}
 use Rattle.dry_run.specs.declared.run.Phase.{Phase}
 use Rattle.dry_run.specs.declared.run.Phase.TheVariants.{Over}
@@ -78,7 +77,7 @@ module _ (text i o : List ℕ) (planning : Planning text true i o) where
   plan_refused question line e =
       refused text true i o planning 10 question line (λ more. ap verdict (append_assoc i (10 ∷ []) more) ∙ (ap part_verdict (found more) ∙ (ap read_text (sym planning.held) ∙ e)))
 
-  pub plan_accepted : (c : Contents) (controller : Controller Banks meaning) → read_text text ≡ Ok c → MadeFrom c controller → Replaying controller [] (i ++ (10 ∷ [])) (o ++ limits_text (plan_told c) c)
+  pub plan_accepted : (c : Contents) (controller : Controller Banks meaning) → read_text text ≡ Ok c → MadeFrom c controller → Replaying controller [] (i ++ (10 ∷ [])) (o ++ preamble_text c)
   plan_accepted c controller e m = record {
     text = i;
     contents = c;
@@ -98,7 +97,7 @@ module _ (text i o : List ℕ) (planning : Planning text true i o) where
       run = m.starts;
       answers = [];
       replays = none;
-      printed = ap (λ xs. xs ++ limits_text (plan_told c) c) planning.nothing ∙ sym (append-nil (limits_text (plan_told c) c));
+      printed = ap (λ xs. xs ++ preamble_text c) planning.nothing ∙ sym (append-nil (preamble_text c));
     };
   }
 
@@ -112,10 +111,18 @@ reads_same : (a b : List ℕ) → read_event a ≡ read_event b → (r : Result 
 reads_same a b e (Ok event) w = (sym (refuses_same a b e) ∙ w.0, sym e ∙ w.1)
 reads_same a b e (Err why) w = sym (refuses_same a b e) ∙ w
 
+-- one call
+pub one_call : (k next : Controller Banks meaning) (call : Call) → Follows (setup k) (snapshot k) call (snapshot next) → Step k call next → RunsOn k (call ∷ []) next
+one_call k next call follows step = λ h run. (
+  moment call (snapshot next) ∷ h,
+  subst (λ x. LawfulRun x (snapshot next) (moment call (snapshot next) ∷ h)) (sym step.same) (follows h run.runs),
+  (next, step, (refl, refl)),
+)
+
 -- a run goes on by one line
 module _ (c : Contents) (k next : Controller Banks meaning) (lines : List (List ℕ)) (o : List ℕ) (p : Plays c k lines o) (line printed : List ℕ) where
-  longer : o ++ printed ≡ limits_text (plan_told c) c ++ (p.answers ++ printed)
-  longer = ap (λ xs. xs ++ printed) p.printed ∙ append_assoc (limits_text (plan_told c) c) p.answers printed
+  longer : o ++ printed ≡ preamble_text c ++ (p.answers ++ printed)
+  longer = ap (λ xs. xs ++ printed) p.printed ∙ append_assoc (preamble_text c) p.answers printed
 
   pub plays_more : (e : Result Event Refusal) → ReadsEvent line e → LineDone k e printed next → Plays c next (lines ++ (line ∷ [])) (o ++ printed)
   plays_more (Err why) r (text, same) =
@@ -129,14 +136,15 @@ module _ (c : Contents) (k next : Controller Banks meaning) (lines : List (List 
         printed = longer;
       } in
       subst (λ x. Plays c x (lines ++ (line ∷ [])) (o ++ printed)) (sym same) more
-  plays_more (Ok e) r (call, of, text, follows, step) =
+  plays_more (Ok e) r (answer, of, text, on) =
+      let (history, run, steps) = on p.history p.run in
       record {
         begins = p.begins;
         controller = p.controller;
-        history = moment call (snapshot next) ∷ p.history;
-        run = subst (λ x. LawfulRun x (snapshot next) (moment call (snapshot next) ∷ p.history)) (sym step.same) (follows p.history p.run.runs);
+        history = history;
+        run = run;
         answers = p.answers ++ printed;
-        replays = subst (λ x. Replays p.begins (lines ++ (line ∷ [])) (moment call (snapshot next) ∷ p.history) next (p.answers ++ x)) (sym text) (answered line e call next p.replays r.1 of step);
+        replays = subst (λ x. Replays p.begins (lines ++ (line ∷ [])) history next (p.answers ++ x)) (sym text) (answered line e answer p.replays r.1 of steps);
         printed = longer;
       }
 
@@ -218,12 +226,12 @@ takes_more d e f p q old middle mid end new room x y =
 no_lines : (first : Controller Banks meaning) (lines : List (List ℕ)) (h : History) (k : Controller Banks meaning) (out : List ℕ) → Replays first lines h k out → lines ≡ [] → out ≡ []
 no_lines first _ _ _ _ none e = refl
 no_lines first _ _ _ _ (unreadable {lines} line why r u) e = absurd (omega (arith, length_push lines line, ap length e))
-no_lines first _ _ _ _ (answered {lines} line event call next r u of step) e = absurd (omega (arith, length_push lines line, ap length e))
+no_lines first _ _ _ _ (answered {lines} line event answer r u of steps) e = absurd (omega (arith, length_push lines line, ap length e))
 
 -- with nothing behind the plan
 alone_by : (v : Verdict) (input out : List ℕ) → PrintedBy v input out → behind_plan input ≡ [] → out ≡ said v
 alone_by (Ok c) input out (k, p) b =
-    p.printed ∙ (ap (λ xs. limits_text (plan_told c) c ++ xs) (no_lines _ _ _ _ _ p.replays (ap lines_of b)) ∙ append-nil (limits_text (plan_told c) c))
+    p.printed ∙ (ap (λ xs. preamble_text c ++ xs) (no_lines _ _ _ _ _ p.replays (ap lines_of b)) ∙ append-nil (preamble_text c))
 alone_by (Err why) input out e b = e
 
 pub ends_with : (d : DryRun) (old printed : List ℕ) (n : ℕ) (new : List ℕ) → Laid old 0 printed n new → ((i o : List ℕ) → Fed d i o → Printed i (o ++ printed)) → Ends d old n new

@@ -1,10 +1,9 @@
 -- What is printed of a whole input.
 use Rattle.std.specs.Prelude.{◌≡◌, ℕ, List, [], ◌∷◌, ◌++◌, Some, Ok, Err}
 use Rattle.controller.specs.declared.controller.Controller.{Controller}
-use Rattle.event.specs.Answers.{event_of, line_text, unreadable_text}
+use Rattle.event.specs.Answers.{calls_of, event_of, line_text, unreadable_text}
 use Rattle.event.specs.Lines.{read_event, event_questions}
 use Rattle.event.specs.declared.event.Event.{Event}
-use Rattle.limits.specs.Lines.{limits_text}
 use Rattle.plan.specs.Contents.{Contents}
 use Rattle.plan_text.specs.Texts.{Verdict}
 use Rattle.rules.specs.Answers.{Event as Call, made}
@@ -16,11 +15,20 @@ use Rattle.text.specs.Refusals.{number}
 use Rattle.text.specs.declared.refusal.Refusal.{Refusal}
 use Rattle.dry_run.specs.Banks.{Banks}
 use Rattle.dry_run.specs.Made.{meaning, setup, snapshot, MadeFrom, Step}
-use Rattle.dry_run.specs.Said.{behind_plan, plan_told, refused_text, verdict}
+use Rattle.dry_run.specs.Said.{behind_plan, preamble_text, refused_text, verdict}
+
+-- calls one after another, each a step of the controller and a moment of the history
+abbrev pub StepsBy : List Call → Controller Banks meaning → History →
+    Controller Banks meaning → History → Type 0
+StepsBy [] k h last g = (last ≡ k) × (g ≡ h)
+StepsBy (call ∷ calls) k h last g =
+    (next : Controller Banks meaning)
+    × Step k call next
+    × StepsBy calls next (moment call (snapshot next) ∷ h) last g
 
 -- the lines so far, the history of their calls, where the controller stands, and what was printed
--- of them. A line that is an event is a call, and it is printed with the answer; a line that is
--- none is printed with the number of the question that is answered no, and is no call
+-- of them. A line that is an event stands for a row of calls, and it is printed with its answer; a
+-- line that is none is printed with the number of the question that is answered no, and is no call
 pub data Replays (first : Controller Banks meaning) :
     List (List ℕ) → History → Controller Banks meaning → List ℕ → Type 0 where
   none : Replays first [] (moment made (snapshot first) ∷ []) first []
@@ -29,28 +37,30 @@ pub data Replays (first : Controller Banks meaning) :
       → Replays first lines h k out
       → first_no (event_questions line) ≡ Some (number why)
       → Replays first (lines ++ (line ∷ [])) h k (out ++ unreadable_text why)
-  answered : {lines : List (List ℕ)} {h : History} {k : Controller Banks meaning} {out : List ℕ}
-      (line : List ℕ) (e : Event) (call : Call) (next : Controller Banks meaning)
+  answered : {lines : List (List ℕ)} {h g : History} {k next : Controller Banks meaning}
+      {out : List ℕ} (line : List ℕ) (e : Event) (answer : Call)
       → Replays first lines h k out
       → read_event line ≡ Some e
-      → event_of call ≡ Some e
-      → Step k call next
-      → Replays first (lines ++ (line ∷ [])) (moment call (snapshot next) ∷ h) next
-      (out ++ line_text call)
+      → event_of answer ≡ Some e
+      → StepsBy (calls_of answer) k h next g
+      → Replays first (lines ++ (line ∷ [])) g next (out ++ line_text answer)
 
--- a run of the controller of a plan, whose calls are the lines that are events, and what was printed: the wait limits, and each line
-pub record Plays (c : Contents) (k : Controller Banks meaning) (lines : List (List ℕ)) (out : List ℕ) : Type 0 where
+-- a run of the controller of a plan, whose calls are those of the lines that are events, and what
+-- was printed: the lines before the events, and each line with its answer
+pub record Plays (c : Contents) (k : Controller Banks meaning) (lines : List (List ℕ))
+    (out : List ℕ) : Type 0 where
   pub begins : Controller Banks meaning
   pub controller : MadeFrom c begins
   pub history : History
   pub run : LawfulRun (setup k) (snapshot k) history
   pub answers : List ℕ
   pub replays : Replays begins lines history k answers
-  pub printed : out ≡ limits_text (plan_told c) c ++ answers
+  pub printed : out ≡ preamble_text c ++ answers
 
 -- a refused plan prints its line and nothing else
 abbrev pub PrintedBy : Verdict → List ℕ → List ℕ → Type 0
-PrintedBy (Ok c) input out = (k : Controller Banks meaning) × Plays c k (lines_of (behind_plan input)) out
+PrintedBy (Ok c) input out =
+    (k : Controller Banks meaning) × Plays c k (lines_of (behind_plan input)) out
 PrintedBy (Err p) input out = out ≡ refused_text p.0 p.1
 
 abbrev pub Printed : List ℕ → List ℕ → Type 0

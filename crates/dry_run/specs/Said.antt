@@ -52,7 +52,11 @@ readers_writers_told c = record { resources = c.reader_writers; seats = processo
 abbrev pub plan_told : Contents → Told
 plan_told c = pair_told (slots_told c) (readers_writers_told c)
 
--- what is printed: the wait limits of each resource, or the refusal
+-- the lines before those of the events: the wait limits of each resource
+abbrev pub preamble_text : Contents → List ℕ
+preamble_text c = limits_text (plan_told c) c
+
+-- what is printed of a plan: the lines before the events, or the refusal
 abbrev pub said : Verdict → List ℕ
-said (Ok c) = limits_text (plan_told c) c
+said (Ok c) = preamble_text c
 said (Err p) = refused_text p.0 p.1

@@ -1,30 +1,37 @@
 -- What one line does, and how much may be printed.
 use Rattle.std.specs.Prelude.{◌≡◌, ℕ, ◌+◌, ◌*◌, ◌≤◌, List, length, min, true, Some, Ok, Err, Result}
 use Rattle.controller.specs.declared.controller.Controller.{Controller}
-use Rattle.event.specs.Answers.{event_of, line_text, unreadable_text}
+use Rattle.event.specs.Answers.{calls_of, event_of, line_text, unreadable_text}
 use Rattle.event.specs.Lines.{event_text}
 use Rattle.event.specs.declared.event.Event.{Event}
 use Rattle.rules.specs.Answers.{Event as Call}
-use Rattle.rules.specs.Runs.{Follows}
+use Rattle.rules.specs.Histories.{History}
+use Rattle.rules.specs.Runs.{LawfulRun}
 use Rattle.text.specs.declared.refusal.Refusal.{Refusal}
 use Rattle.dry_run.specs.Fed.{Laid}
 use Rattle.dry_run.specs.Banks.{Banks}
-use Rattle.dry_run.specs.Made.{meaning, setup, snapshot, Step}
+use Rattle.dry_run.specs.Made.{meaning, setup, snapshot}
+use Rattle.dry_run.specs.Plays.{StepsBy}
 use Rattle.dry_run.specs.declared.run.DryRun.{DryRun}
 use Rattle.dry_run.specs.declared.run.Phase.{Phase}
 use Rattle.dry_run.specs.declared.run.Phase.TheVariants.{Plan, Events, Over}
 
--- a line that is an event is a call, with its answer printed; another is printed with the number of
--- its refusal, and nothing changes
+-- whatever history led here, with these calls more it is that of a run that keeps the law
+abbrev pub RunsOn : Controller Banks meaning → List Call → Controller Banks meaning → Type 0
+RunsOn k calls next =
+    (h : History) → LawfulRun (setup k) (snapshot k) h
+    → (g : History) × LawfulRun (setup next) (snapshot next) g × StepsBy calls k h next g
+
+-- a line that is an event is a row of calls, and is printed with its answer; another is printed
+-- with the number of its refusal, and nothing changes
 abbrev pub LineDone : Controller Banks meaning → Result Event Refusal → List ℕ →
     Controller Banks meaning → Type 0
 LineDone k (Err why) printed next = (printed ≡ unreadable_text why) × (next ≡ k)
 LineDone k (Ok e) printed next =
-    (call : Call)
-    × (event_of call ≡ Some e)
-    × (printed ≡ line_text call)
-    × Follows (setup k) (snapshot k) call (snapshot next)
-    × Step k call next
+    (answer : Call)
+    × (event_of answer ≡ Some e)
+    × (printed ≡ line_text answer)
+    × RunsOn k (calls_of answer) next
 
 -- the size of an event's line, and of the shortest that is none
 abbrev pub line_size : Result Event Refusal → ℕ

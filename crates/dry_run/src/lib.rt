@@ -6,6 +6,7 @@ pub mod banks;
 /// What one event line does.
 pub mod line;
 pub mod play;
+mod preamble;
 mod read;
 /// The line of a refused plan.
 pub mod refused;

@@ -1,9 +1,7 @@
 ghost use Rattle.std.specs.Prelude.{◌≡◌, ◌+◌, ◌*◌, ◌≤◌, length, Some};
-ghost use Rattle.event.specs.Answers.{call_of, event_of, line_text, event_size, unreadable_text};
-ghost use Rattle.rules.specs.Runs.{Follows};
+ghost use Rattle.event.specs.Answers.{call_of, calls_of, event_of, line_text, event_size, unreadable_text};
 ghost use Rattle.dry_run.specs.Fed.{Laid};
-ghost use Rattle.dry_run.specs.Steps.{line_size, LineTaken};
-ghost use Rattle.dry_run.specs.Made.{setup, snapshot, Step};
+ghost use Rattle.dry_run.specs.Steps.{line_size, LineTaken, RunsOn};
 
 use byte_vec::byte_vec::ByteVec;
 use controller::controller::Controller;
@@ -17,10 +15,10 @@ use text::number::push_field;
 use text::refusal::Refusal;
 
 // Puts an event to the controller.
+#[tactic(auto, using(crate::proofs::Steps::one_call))]
 fn call(controller: &mut Controller<Pair<Slots, ReadersWriters>>, event: Event) -> Answered
     ensures event { event_of (call_of result) ≡ Some event }
-    ensures follows { Follows (setup controller.old) (snapshot controller.old) (call_of result) (snapshot controller.new) }
-    ensures step { Step controller.old (call_of result) controller.new }
+    ensures runs { RunsOn controller.old (calls_of (call_of result)) controller.new }
 {
     match event {
         Event::Release(task) => Answered::Release(task, controller.release(task)),

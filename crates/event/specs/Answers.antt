@@ -74,6 +74,10 @@ answer_text (answered.Give t x) = number_text x
 answer_text (answered.Finish t x) = finished_text x
 answer_text (answered.Tick x) = number_text x
 
+-- the calls that an event with its answer stands for, one after another: today one
+abbrev pub calls_of : Call → List Call
+calls_of answer = answer ∷ []
+
 -- the printed line: the event, a comma and the answer
 abbrev pub line_text : Call → List ℕ
 line_text made = []

@@ -1,22 +1,21 @@
 ghost use Rattle.std.specs.Prelude.{◌≡◌, ◌+◌, ◌*◌, ◌≤◌, true, [], ◌∷◌, ◌++◌, length};
 ghost use Rattle.byte_vec.specs.Bytes.{Appends};
 ghost use Rattle.event.specs.Lines.{ReadsEvent};
-ghost use Rattle.limits.specs.Lines.{limits_text};
 ghost use Rattle.plan.specs.Of.{plan_contents};
 ghost use Rattle.dry_run.specs.Fed.{run_in, phase_behind, Laid, Takes};
 ghost use Rattle.dry_run.specs.Steps.{reserve, line_reserve, line_size, AtLine, Waits};
 ghost use Rattle.dry_run.specs.Made.{MadeFrom};
-ghost use Rattle.dry_run.specs.Said.{plan_told, refused_text};
+ghost use Rattle.dry_run.specs.Said.{preamble_text, refused_text};
 ghost use Rattle.dry_run.specs.declared.run.Phase.TheVariants.{Plan as InPlan, Events as InEvents, Over as IsOver};
 
 use crate::banks::banks_of;
 use crate::line::answer_line;
+use crate::preamble::lay_preamble;
 use crate::refused::{lay_no_end, lay_refused};
 use crate::run::{DryRun, Phase};
 use byte_vec::byte_vec::{ByteVec, Full};
 use controller::controller::Controller;
 use event::event::Event;
-use limits::limits::write_limits;
 use pair::pair::Pair;
 use plan::plan::Plan;
 use plan_text::read::read;
@@ -24,15 +23,15 @@ use readers_writers::lines::ReadersWriters;
 use slots::slots::Slots;
 use text::refusal::Refusal;
 
-// The plan is accepted: its controller, and the end of the wait limits.
+// The plan is accepted: its controller, and the end of the lines before the events.
 fn accept(plan: &Plan, out: &mut [u8]) -> (Controller<Pair<Slots, ReadersWriters>>, usize)
     requires { 1040 ≤ length out.old }
-    ensures laid { Laid out.old 0 (limits_text (plan_told (plan_contents plan.now)) (plan_contents plan.now)) result.1 out.new }
+    ensures laid { Laid out.old 0 (preamble_text (plan_contents plan.now)) result.1 out.new }
     ensures few { result.1 ≤ 1040 }
     ensures made { MadeFrom (plan_contents plan.now) result.0 }
 {
     let banks = banks_of(plan);
-    let end = write_limits(plan, &banks, out).unwrap();
+    let end = lay_preamble(plan, &banks, out);
     (Controller::new(plan, banks), end)
 }
 

@@ -1,7 +1,6 @@
-use Rattle.limits.specs.Lines.{limits_text}
 use Rattle.plan.specs.Of.{plan_contents}
 use Rattle.text.specs.Refusals.{number}
-use Rattle.dry_run.specs.Said.{plan_told, refused_text}
+use Rattle.dry_run.specs.Said.{preamble_text, refused_text}
 use Rattle.dry_run.proofs.Steps.{plan_accepted, plan_refused}
 use Rattle.dry_run.proofs.run.take.behind_plan.Goals as goal
 
@@ -9,7 +8,7 @@ pub returns-in-Ok-clause-takes : goal.returns-in-Ok-clause-takes
 returns-in-Ok-clause-takes c =
     let said = plan_contents c.read.new.into in
     record {
-      printed = limits_text (plan_told said) said;
+      printed = preamble_text said;
       laid = c.accept-controller.ensures.laid;
       law = λ i o fed. plan_accepted c.args.text.now i o fed said c.accept-controller.result.0 c.in-Ok.ensures.reads c.accept-controller.ensures.made;
     }
