@@ -7,52 +7,45 @@ use Rattle.bank.specs.Questions.{enter_questions, number as bank_number}
 use Rattle.bank.specs.declared.refusal.Refusal.{Refusal as BankRefusal}
 use Rattle.text.specs.Questions.{first_no}
 use Rattle.rules.specs.Answers.{finished, Answered, IssuesNext, next_questions}
-use Rattle.rules.specs.Jobs.{Setup, Snapshot, Jobs, cluster_of, first, least_below, if_first, next_issued}
+use Rattle.rules.specs.Jobs.{Setup, Snapshot, cluster_of, ended, first, jobs_in, least_below, if_first, next_issued}
 use Rattle.rules.specs.Questions.{finish_questions}
-use Rattle.rules.specs.States.{is_held_back, wanted_of, asked_state, issued_state, idle_task}
-use Rattle.rules.specs.declared.answer.Asked.TheVariants.{Hold, Wait}
+use Rattle.rules.specs.States.{is_held_back, wanted_of, idle_task}
 use Rattle.rules.specs.declared.refusal.Refusal.TheVariants.{Bank}
 use Rattle.rules.specs.declared.task.Task.{Task}
 use Rattle.rules.specs.declared.task.Wanted.{Wanted}
 use Rattle.rules.proofs.Counts.{least_some}
 use Rattle.table.specs.Rows.{next_of}
 use Rattle.table.proofs.Firsts.{present}
-use Rattle.controller.specs.Issues.{IsNext}
 
--- the task found exists and is held back
-pub next_known : (a : Setup) (tasks : ℕ → Task) (g : ℕ) (o : Option ℕ) → o ≡ next_of a tasks g → IsNext a.tasks tasks o
-next_known a tasks g None e = tt
-next_known a tasks g (Some u) e = go (least_below test value a.tasks) refl (sym e)
+-- the task whose request is issued exists, is held back, and is another than the one whose job ends
+pub record IsNext (a : Setup) (s : Snapshot) (t u : ℕ) : Type 0 where
+  pub known : u < a.tasks
+  pub other : eqb t u ≡ false
+  pub held_back : is_held_back (s.tasks u).state ≡ true
+
+pub is_next : (a : Setup) (s : Snapshot) (t u : ℕ) → Some u ≡ next_issued a s t → IsNext a s t u
+is_next a s t u e = go (least_below test value a.tasks) refl (sym e)
   where
     test : ℕ → Bool
-    test v = is_held_back (tasks v).state && eqb (cluster_of a v) g
+    test v = is_held_back ((ended s t).tasks v).state && eqb (cluster_of a v) (cluster_of a t)
 
     value : ℕ → ℕ
-    value v = (tasks v).release
+    value v = ((ended s t).tasks v).release
 
-    j : Jobs
-    j = record { state = λ q. (tasks q).state; number = λ q. (tasks q).release }
+    of : (v : ℕ) → v < a.tasks → is_held_back ((ended s t).tasks v).state ≡ true → (b : Bool) → eqb t v ≡ b → IsNext a s t v
+    of v lt h true f = absurd (false≢true (ap (λ (b : Bool). is_held_back (cond b idle_task (s.tasks v)).state) (sym f) ∙ h))
+    of v lt h false f = record { known = lt; other = f; held_back = ap (λ (b : Bool). is_held_back (cond b idle_task (s.tasks v)).state) (sym f) ∙ h }
 
-    go : (x : Option ℕ) → least_below test value a.tasks ≡ x → if_first a j x ≡ Some u → (u < a.tasks) × (is_held_back (tasks u).state ≡ true)
+    go : (x : Option ℕ) → least_below test value a.tasks ≡ x → if_first a (jobs_in (ended s t)) x ≡ Some u → IsNext a s t u
     go None f h = let z : ◌≡◌ {A = ℕ} 0 1 = cc in absurd (omega arith)
     go (Some v) f h =
-        let same = present (first a j v) v u h in
+        let same = present (first a (jobs_in (ended s t)) v) v u h in
         let found = least_some test value a.tasks v f in
-        subst (λ k. (k < a.tasks) × (is_held_back (tasks k).state ≡ true)) same.1 (found.1, (and_parts _ _ found.0).0)
-
--- an issued request is in the state of an ask that was answered hold or wait
-pub state_issued : (holds : Bool) (w : Wanted) → asked_state (cond holds Hold Wait) w ≡ issued_state holds w
-state_issued true w = refl
-state_issued false w = refl
+        subst (IsNext a s t) same.1 (of v found.1 (and_parts _ _ found.0).0 (eqb t v) refl)
 
 -- the records of which the job of t is ended
 pub next_same : (a : Setup) (s : Snapshot) (t : ℕ) (tasks : ℕ → Task) (o : Option ℕ) → o ≡ next_of a tasks (cluster_of a t) → ((q : ℕ) → tasks q ≡ cond (eqb t q) idle_task (s.tasks q)) → o ≡ next_issued a s t
 next_same a s t tasks o e h = e ∙ ap (λ (f : ℕ → Task). next_of a f (cluster_of a t)) (fun_ext h)
-
--- a task that is held back there is another than t
-pub next_other : (k x : Task) (b : Bool) → k ≡ cond b idle_task x → is_held_back k.state ≡ true → k ≡ x
-next_other k x true e h = absurd (false≢true (sym (ap (λ (y : Task). is_held_back y.state) e) ∙ h))
-next_other k x false e h = e
 
 module _ (a : Setup) (s : Snapshot) (t : ℕ) (own : first_no (finish_questions a s t) ≡ None) where
   pub finish_plain : (blocked : ℕ) → None ≡ next_issued a s t → blocked ≡ (s.tasks t).blocked → Answered a s (finished t (Ok (record { blocked = blocked; issued = None }))) s.lists

@@ -16,9 +16,6 @@ use Rattle.controller.specs.declared.controller.Controller.{Controller}
 le_prop : (m n : ℕ) → IsProp (m ≤ n)
 le_prop m n = hlevel props
 
-long_prop : (rows : List Task) → IsProp (length rows ≡ 64)
-long_prop rows = hlevel props
-
 lengths_prop : (p : Contents) (n : ℕ) (rows : List Task) → IsProp (KeepsLengths p (tasks_in n rows))
 lengths_prop p n rows = hlevel props
 
@@ -40,9 +37,8 @@ same_controllers c d p t r k w n b =
       few_resources = is_prop→PathP (λ j. r j ≤ resource_count (plan_contents (p j))) (λ j. le_prop (r j) (resource_count (plan_contents (p j)))) c.few_resources d.few_resources i;
       clock_ends = is_prop→PathP (λ j. w j ≤ 100000000) (λ j. le_prop (w j) 100000000) c.clock_ends d.clock_ends i;
       releases_end = is_prop→PathP (λ j. n j ≤ 100000000) (λ j. le_prop (n j) 100000000) c.releases_end d.releases_end i;
-      all_records = is_prop→PathP (λ j. length (k j).rows ≡ 64) (λ j. long_prop (k j).rows) c.all_records d.all_records i;
-      blocked_ticks = is_prop→PathP (λ j. (q : ℕ) → (get_or (k j).rows q idle_task).blocked ≤ w j) (λ j. few_prop (k j).rows (w j)) c.blocked_ticks d.blocked_ticks i;
-      keeps_lengths = is_prop→PathP (λ j. KeepsLengths (plan_contents (p j)) (tasks_in (t j) (k j).rows)) (λ j. lengths_prop (plan_contents (p j)) (t j) (k j).rows) c.keeps_lengths d.keeps_lengths i;
+      blocked_ticks = is_prop→PathP (λ j. (q : ℕ) → (get_or (k j).records.rows q idle_task).blocked ≤ w j) (λ j. few_prop (k j).records.rows (w j)) c.blocked_ticks d.blocked_ticks i;
+      keeps_lengths = is_prop→PathP (λ j. KeepsLengths (plan_contents (p j)) (tasks_in (t j) (k j).records.rows)) (λ j. lengths_prop (plan_contents (p j)) (t j) (k j).records.rows) c.keeps_lengths d.keeps_lengths i;
     }
 
 -- a bank that tells the same

@@ -1,18 +1,20 @@
 -- The records of the first n tasks, by their places.
-use Rattle.std.proofs.Common.{◌≡◌, ℕ, zero, suc, ◌+◌, ◌<◌, ◌≤◌, Bool, true, false, cond, eqb, leb, ltb, List, [], ◌∷◌, length, get_or, set, is_some, Some, None, Option, unwrap_or, sym, refl, ap, ◌∙◌, subst, ⊎_elim, arith}
+use Rattle.std.proofs.Common.{◌≡◌, ℕ, zero, suc, ◌+◌, ◌<◌, ◌≤◌, Bool, true, false, cond, eqb, leb, ltb, List, [], ◌∷◌, length, get_or, set, is_some, Some, None, Option, unwrap_or, sym, refl, ap, ◌∙◌, subst, inl, ⊎_elim, arith}
 use Rattle.std.proofs.lemmas.Bool.{false≢true, le-leb, leb-false, cases_lt, cond-true, cond-false, lt-ltb, le-ltb, ne_eqb, eqb-true}
 use Rattle.plan.specs.Contents.{Contents, length_at}
 use Rattle.rules.specs.Jobs.{Setup, Snapshot}
 use Rattle.rules.specs.Moves.{ticked_state, ticked_task}
-use Rattle.rules.specs.Questions.{late_in, late}
-use Rattle.rules.specs.States.{is_held_back, wanted_of, asked_state, idle_task}
+use Rattle.rules.specs.Questions.{late_in, late, late_task}
+use Rattle.rules.specs.States.{is_held_back, wanted_of, asked_state, issued_state, idle_task}
 use Rattle.rules.specs.declared.answer.Asked.{Asked}
 use Rattle.rules.specs.declared.answer.Asked.TheVariants.{Hold, Wait, Back}
 use Rattle.rules.specs.declared.task.State.{State}
 use Rattle.rules.specs.declared.task.State.TheVariants.{Idle, Going, HeldBack, Waiting, Holding}
 use Rattle.rules.specs.declared.task.Task.{Task}
 use Rattle.rules.specs.declared.task.Wanted.{Wanted}
+use Rattle.rules.proofs.Counts.{lowest_none}
 use Rattle.table.specs.Rows.{is_within, keeps_length, KeepsLengths, tasks_in}
+use Rattle.table.proofs.Ranks.{tasks_past}
 use Rattle.table.proofs.Rows.{set_row}
 
 pub task_here : (n : ℕ) (rows : List Task) (q : ℕ) → q < n → tasks_in n rows q ≡ get_or rows q idle_task
@@ -67,6 +69,10 @@ lengths_asked p q Hold w e = within_none (length_at p q w.resource) e
 lengths_asked p q Wait w e = within_none (length_at p q w.resource) e
 lengths_asked p q Back w e = within_none (length_at p q w.resource) e
 
+pub lengths_issued : (p : Contents) (q : ℕ) (holds : Bool) (w : Wanted) → is_some (length_at p q w.resource) ≡ true → keeps_length p q 0 (issued_state holds w) ≡ true
+lengths_issued p q true w e = within_none (length_at p q w.resource) e
+lengths_issued p q false w e = within_none (length_at p q w.resource) e
+
 -- what is held back is at a declared length
 declared : (n : ℕ) (o : Option ℕ) → is_within n o ≡ true → is_some o ≡ true
 declared n None e = absurd (false≢true e)
@@ -93,3 +99,19 @@ lengths_ticked a t (Holding w) k e late kept = ap (keeps_length a.plan t (k.used
 
 pub lengths_all_ticked : (a : Setup) (s : Snapshot) (new : ℕ → Task) → KeepsLengths a.plan s.tasks → ((q : ℕ) → late a s q ≡ false) → ((q : ℕ) → new q ≡ ticked_task (s.tasks q)) → KeepsLengths a.plan new
 lengths_all_ticked a s new known on_time each q = ap (λ (k : Task). keeps_length a.plan q k.used k.state) (each q) ∙ lengths_ticked a q (s.tasks q).state (s.tasks q) refl (on_time q) (known q)
+
+-- past the tasks all are idle, and stay so
+pub ticked_tasks : (n : ℕ) (rows new : List Task) → ((k : ℕ) → k < n → get_or new k idle_task ≡ ticked_task (get_or rows k idle_task)) → (q : ℕ) → tasks_in n new q ≡ ticked_task (tasks_in n rows q)
+ticked_tasks n rows new h q =
+    ⊎_elim
+    (λ (l : q < n). task_here n new q l ∙ (h q l ∙ ap ticked_task (sym (task_here n rows q l))))
+    (λ (far : n ≤ q). tasks_past n new q (inl far) ∙ ap ticked_task (sym (tasks_past n rows q (inl far))))
+    (cases_lt q n)
+
+-- where no task is late, none is past them either
+pub on_time_all : (a : Setup) (s : Snapshot) → ((q : ℕ) → a.tasks ≤ q → s.tasks q ≡ idle_task) → late_task a s ≡ None → (q : ℕ) → late a s q ≡ false
+on_time_all a s idle none q =
+    ⊎_elim
+    (λ (l : q < a.tasks). lowest_none (late a s) a.tasks none q l)
+    (λ (far : a.tasks ≤ q). ap (λ (k : Task). late_in a q k.used k.state) (idle q far))
+    (cases_lt q a.tasks)

@@ -1,5 +1,5 @@
 -- What a call does to the bank.
-use Rattle.std.specs.Prelude.{◌≡◌, ℕ, ◌<◌, Bool, true, false, cond, List, [], length, Some, None, Ok, Err, Option, Result, slice_index_or}
+use Rattle.std.specs.Prelude.{◌≡◌, ℕ, Bool, true, false, cond, List, [], Some, Ok, Err, Result, slice_index_or}
 use Rattle.bank.specs.Meaning.{Lists, Enters}
 use Rattle.bank.specs.Questions.{Told, enter_questions}
 use Rattle.bank.specs.declared.refusal.Refusal.{Refusal as BankRefusal}
@@ -8,7 +8,7 @@ use Rattle.bank.specs.declared.request.Request.{Request}
 use Rattle.text.specs.Questions.{first_no}
 use Rattle.rules.specs.Moves.{let_in}
 use Rattle.rules.specs.Refusals.{number, from_bank}
-use Rattle.rules.specs.States.{is_held_back, idle_task}
+use Rattle.rules.specs.States.{idle_task}
 use Rattle.rules.specs.declared.answer.Asked.{Asked}
 use Rattle.rules.specs.declared.answer.Asked.TheVariants.{Hold, Wait, Back}
 use Rattle.rules.specs.declared.refusal.Refusal.{Refusal}
@@ -24,14 +24,8 @@ Asks told first t r m (Err why) old new = (first_no (cond first (enter_questions
 
 -- the records after a departure from r, where xs are now the requests there
 pub record LetsIn (n r : ℕ) (xs : List Request) (old new : List Task) : Type 0 where
-  pub all : length new ≡ 64
   pub tasks : (q : ℕ) → tasks_in n new q ≡ let_in r xs q (tasks_in n old q)
   pub blocked : (q : ℕ) → (slice_index_or new q idle_task).blocked ≡ (slice_index_or old q idle_task).blocked
-
--- the task whose request is issued is held back
-abbrev pub IsNext : ℕ → (ℕ → Task) → Option ℕ → Type 0
-IsNext n tasks None = Unit {0}
-IsNext n tasks (Some u) = (u < n) × (is_held_back (tasks u).state ≡ true)
 
 -- what is known of how a bank changes by an ask
 abbrev pub AskChanges : {X : Type 0} → (ℕ → ℕ → Mode → Result Bool BankRefusal → X → X → Type 0) → ℕ → ℕ → Mode → Result Asked Refusal → X → X → Type 0

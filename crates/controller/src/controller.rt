@@ -6,9 +6,8 @@ ghost use Rattle.table.specs.Rows.{KeepsLengths, tasks_in};
 
 use bank::meaning::Bank;
 use plan::plan::Plan;
-use rules::task::Task;
-use table::records::Records;
 use table::table::Table;
+use table::tasks::Tasks;
 
 /// A controller over a bank. Where the bank fits the plan it has the plan's tasks and resources,
 /// and else none. It starts at clock 0, with no task released.
@@ -17,7 +16,7 @@ pub struct Controller<B: Bank> {
     plan: Plan,
     tasks: usize,
     resources: u32,
-    table: Records<Task>,
+    table: Tasks,
     clock: u32,
     releases: u32,
     bank: B,
@@ -26,9 +25,8 @@ pub struct Controller<B: Bank> {
     ghost few_resources: { resources ≤ resource_count (plan_contents plan) },
     ghost clock_ends: { clock ≤ 100000000 },
     ghost releases_end: { releases ≤ 100000000 },
-    ghost all_records: { length table.rows ≡ 64 },
-    ghost blocked_ticks: { (q : ℕ) → (slice_index_or table.rows q idle_task).blocked ≤ clock },
-    ghost keeps_lengths: { KeepsLengths (plan_contents plan) (tasks_in tasks table.rows) },
+    ghost blocked_ticks: { (q : ℕ) → (slice_index_or table.records.rows q idle_task).blocked ≤ clock },
+    ghost keeps_lengths: { KeepsLengths (plan_contents plan) (tasks_in tasks table.records.rows) },
 }
 
 impl<B: Bank> Controller<B> {
@@ -36,12 +34,12 @@ impl<B: Bank> Controller<B> {
     fn jobs(&self) -> Table<'_>
         ensures plan { result.plan.now ≡ self.now.plan }
         ensures tasks { result.tasks ≡ self.now.tasks }
-        ensures rows { result.rows.now ≡ self.now.table.rows }
+        ensures rows { result.rows.now ≡ self.now.table.records.rows }
     {
         Table {
             plan: &self.plan,
             tasks: self.tasks,
-            rows: &self.table.rows,
+            rows: self.table.rows(),
         }
     }
 }

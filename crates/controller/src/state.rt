@@ -1,5 +1,7 @@
-ghost use Rattle.std.specs.Prelude.{◌≡◌, if◌then◌else◌};
-ghost use Rattle.rules.specs.States.{asked_state, in_state, wanted_of};
+ghost use Rattle.std.specs.Prelude.{◌≡◌, true, if◌then◌else◌};
+ghost use Rattle.controller.specs.Ticks.{CanTick};
+ghost use Rattle.rules.specs.Moves.{ticked_task};
+ghost use Rattle.rules.specs.States.{asked_state, in_state, is_held_back, issued_state, wanted_of};
 
 use bank::request::Mode;
 use rules::answer::Asked;
@@ -12,14 +14,26 @@ pub(crate) fn issued(holds: bool) -> Asked
     if holds { Asked::Hold } else { Asked::Wait }
 }
 
-// The state after an ask.
-pub(crate) fn asked_state(answer: Asked, wanted: Wanted) -> State
-    ensures { result ≡ asked_state answer wanted }
+// Where a held-back task moves when its request is issued.
+pub(crate) fn issued_state(holds: bool, wanted: Wanted) -> State
+    ensures { result ≡ issued_state holds wanted }
+{
+    if holds {
+        State::Holding(wanted)
+    } else {
+        State::Waiting(wanted)
+    }
+}
+
+// The state after an ask: held back, and on from there where the request was issued.
+pub(crate) fn asked_state(answer: Asked, back: State) -> State
+    requires { is_held_back back ≡ true }
+    ensures { result ≡ asked_state answer (wanted_of back) }
 {
     match answer {
-        Asked::Hold => State::Holding(wanted),
-        Asked::Wait => State::Waiting(wanted),
-        Asked::Back => State::HeldBack(wanted),
+        Asked::Hold => issued_state(true, wanted_of(back)),
+        Asked::Wait => issued_state(false, wanted_of(back)),
+        Asked::Back => back,
     }
 }
 
@@ -31,6 +45,25 @@ pub(crate) fn in_state(job: Task, state: State) -> Task
         state,
         used: 0,
         ..job
+    }
+}
+
+// The record of a task one tick on: a holder has used one tick more, and a job that waits was
+// blocked on one more.
+pub(crate) fn ticked(job: Task) -> Task
+    requires { CanTick job }
+    ensures { result ≡ ticked_task job }
+{
+    match job.state {
+        State::Holding(_) => Task {
+            used: job.used + 1,
+            ..job
+        },
+        State::Waiting(_) => Task {
+            blocked: job.blocked + 1,
+            ..job
+        },
+        State::Idle | State::Going | State::HeldBack(_) => job,
     }
 }
 

@@ -7,9 +7,11 @@ pub mod holders;
 pub mod jobs;
 /// The job whose request is issued next.
 pub mod next;
-/// The records of all tasks.
+/// 64 records, of which one is lent at a time.
 pub mod records;
 /// Which jobs are looked at.
 pub mod selection;
 /// The records with the plan of their tasks.
 pub mod table;
+/// The records of all tasks, read and changed by the number of a task.
+pub mod tasks;

@@ -1,4 +1,4 @@
-ghost use Rattle.std.specs.Prelude.{◌≡◌, ◌<◌, ◌≤◌, slice_index_or, slice_set};
+ghost use Rattle.std.specs.Prelude.{◌≡◌, ◌<◌, slice_index_or, slice_set};
 ghost use Rattle.std.specs.Borrow.{sem, follows};
 ghost use Rattle.table.specs.contracts.records.Records.{the_row};
 
@@ -8,8 +8,8 @@ use rules::task::Task;
 /// lent at a time, so that what is done to it changes no other.
 #[derive(Debug, PartialEq, Eq, Drop)]
 pub struct Records<T> {
-    /// The record of each task.
-    pub rows: [T; 64],
+    // The record of each task.
+    pub(crate) rows: [T; 64],
 }
 
 impl<T> Records<T> {
@@ -24,14 +24,12 @@ impl<T> Records<T> {
 }
 
 impl Records<Task> {
-    /// Changes the record of one task. There is none from 64 on, and nothing changes then.
-    pub fn store(&mut self, t: usize, task: Task)
-        ensures stored { t < 64 → self.new.rows ≡ slice_set self.old.rows t task }
-        ensures kept { 64 ≤ t → self.new ≡ self.old }
+    // Changes the record of one task.
+    pub(crate) fn store(&mut self, t: usize, task: Task)
+        requires { t < 64 }
+        ensures { self.new.rows ≡ slice_set self.old.rows t task }
     {
-        if t < 64 {
-            let place = self.record(t);
-            *place = task;
-        }
+        let place = self.record(t);
+        *place = task;
     }
 }

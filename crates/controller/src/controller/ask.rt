@@ -1,5 +1,6 @@
 ghost use Rattle.std.specs.Prelude.{◌≡◌};
-ghost use Rattle.controller.specs.Checks.{Checked};
+ghost use Rattle.controller.specs.Checks.{Moves};
+ghost use Rattle.rules.specs.declared.task.State.TheVariants.{HeldBack};
 ghost use Rattle.controller.specs.Banks.{BankChanges};
 ghost use Rattle.controller.specs.Of.{setup_of, snapshot_of, Unchanged};
 ghost use Rattle.controller.specs.Issues.{Asks, AskChanges};
@@ -8,14 +9,14 @@ ghost use Rattle.rules.specs.Moves.{Does};
 ghost use Rattle.rules.specs.Runs.{Follows};
 ghost use Rattle.rules.specs.Questions.{ask_questions};
 
-use crate::call::Call;
 use crate::controller::Controller;
 use crate::state::{asked_state, in_state, issued};
 use bank::meaning::Bank;
 use bank::request::Mode;
 use rules::answer::Asked;
+use rules::call::Call;
 use rules::refusal::Refusal;
-use rules::task::Wanted;
+use rules::task::State;
 
 // A request is issued where the job is among the first, and else held back.
 fn issue<B: Bank>(
@@ -37,9 +38,10 @@ fn issue<B: Bank>(
 }
 
 impl<B: Bank> Controller<B> {
-    // Whether the questions of an ask are answered yes.
-    fn check_ask(&self, task: u32, resource: u32, mode: Mode) -> Result<(), Refusal>
-        ensures { Checked (ask_questions (setup_of B.Bank self.now) (snapshot_of B.Bank self.now) task resource mode) result }
+    // Whether the questions of an ask are answered yes, and then the task is to be held back.
+    fn check_ask(&self, task: u32, resource: u32, mode: Mode) -> Result<State, Refusal>
+        ensures { Moves (ask_questions (setup_of B.Bank self.now) (snapshot_of B.Bank self.now) task resource mode)
+            (HeldBack (record { resource = resource; mode = mode })) result }
     {
         let t = task as usize;
         if t >= self.tasks {
@@ -49,7 +51,12 @@ impl<B: Bank> Controller<B> {
         self.plan
             .length(t, resource as usize)
             .ok_or(Refusal::NoLength)?;
-        self.check(task, Call::Ask)
+        let call = Call::Ask {
+            task,
+            resource,
+            mode,
+        };
+        self.check(task, call)
     }
 
     fn do_ask(&mut self, task: u32, resource: u32, mode: Mode) -> Result<Asked, Refusal>
@@ -58,12 +65,12 @@ impl<B: Bank> Controller<B> {
         ensures bank { BankChanges B.Bank (snapshot_of B.Bank self.old) (asked task resource mode result) self.old.bank self.new.bank }
         ensures keeps { Unchanged result self.old self.new }
     {
-        self.check_ask(task, resource, mode)?;
+        let back = self.check_ask(task, resource, mode)?;
         let t = task as usize;
         let first = self.jobs().is_first(t);
         let answer = issue(&mut self.bank, first, task, resource, mode)?;
-        let state = asked_state(answer, Wanted { resource, mode });
-        let record = in_state(self.table.rows[t], state);
+        let state = asked_state(answer, back);
+        let record = in_state(self.table.get(t), state);
         self.table.store(t, record);
         Ok(answer)
     }

@@ -6,12 +6,13 @@ ghost use Rattle.rules.specs.Answers.{gave};
 ghost use Rattle.rules.specs.Moves.{Does, let_in};
 ghost use Rattle.rules.specs.Runs.{Follows};
 
-use crate::call::Call;
 use crate::controller::Controller;
 use crate::state::{in_state, wanted_of};
 use bank::meaning::Bank;
+use rules::call::Call;
 use rules::refusal::Refusal;
 use rules::task::{State, Task};
+use table::tasks::Tasks;
 
 // The record of a task after a departure: one that waited at the resource, and that the bank now lists as holding, holds.
 fn let_in<B: Bank>(bank: &B, resource: u32, task: u32, job: Task) -> Task
@@ -31,13 +32,13 @@ fn let_in<B: Bank>(bank: &B, resource: u32, task: u32, job: Task) -> Task
 }
 
 // The records after a departure.
-fn let_in_all<B: Bank>(bank: &B, resource: u32, tasks: usize, rows: &mut [Task; 64])
+fn let_in_all<B: Bank>(bank: &B, resource: u32, tasks: usize, table: &mut Tasks)
     requires { (resource < (B.Bank.told bank.now).resources) × (tasks ≤ 64) }
-    ensures { LetsIn tasks resource (B.Bank.active bank.now resource) rows.old rows.new }
+    ensures { LetsIn tasks resource (B.Bank.active bank.now resource) table.old.records.rows table.new.records.rows }
 {
     // by the number of a task, which is its place in the table
     for t in 0..tasks {
-        rows[t] = let_in(bank, resource, t as u32, rows[t]);
+        table.store(t, let_in(bank, resource, t as u32, table.get(t)));
     }
 }
 
@@ -48,18 +49,13 @@ impl<B: Bank> Controller<B> {
         ensures bank { BankChanges B.Bank (snapshot_of B.Bank self.old) (gave task result) self.old.bank self.new.bank }
         ensures keeps { Unchanged result self.old self.new }
     {
-        self.check(task, Call::Give)?;
+        let state = self.check(task, Call::Give(task))?;
         let t = task as usize;
-        let job = self.table.rows[t];
+        let job = self.table.get(t);
         let wanted = wanted_of(job.state);
         self.bank.leave(wanted.resource, task)?;
-        self.table.rows[t] = in_state(job, State::Going);
-        let_in_all(
-            &self.bank,
-            wanted.resource,
-            self.tasks,
-            &mut self.table.rows,
-        );
+        self.table.store(t, in_state(job, state));
+        let_in_all(&self.bank, wanted.resource, self.tasks, &mut self.table);
         Ok(job.used)
     }
 

@@ -14,8 +14,7 @@ use bank::meaning::Bank;
 use plan::plan::Plan;
 use plan::resource::Resource;
 use rules::refusal::Refusal;
-use rules::task::Task;
-use table::records::Records;
+use table::tasks::Tasks;
 
 // Whether a resource of the plan and the bank has the plan's k and modes, and nobody active.
 fn fits_at<B: Bank>(plan: &Plan, bank: &B, resource: u32) -> bool
@@ -74,7 +73,7 @@ impl<B: Bank> Controller<B> {
         ensures bank { result.bank ≡ bank }
         ensures tasks { result.tasks ≡ tasks }
         ensures resources { result.resources ≡ resources }
-        ensures idle { (q : ℕ) → tasks_in result.tasks result.table.rows q ≡ idle_task }
+        ensures idle { (q : ℕ) → tasks_in result.tasks result.table.records.rows q ≡ idle_task }
         ensures clock { result.clock ≡ 0 }
         ensures releases { result.releases ≡ 0 }
     {
@@ -82,9 +81,7 @@ impl<B: Bank> Controller<B> {
             plan: *plan,
             tasks,
             resources,
-            table: Records {
-                rows: [Task::IDLE; 64],
-            },
+            table: Tasks::idle(),
             clock: 0,
             releases: 0,
             bank,

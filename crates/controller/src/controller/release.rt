@@ -5,11 +5,11 @@ ghost use Rattle.rules.specs.Answers.{released};
 ghost use Rattle.rules.specs.Moves.{Does};
 ghost use Rattle.rules.specs.Runs.{Follows};
 
-use crate::call::Call;
 use crate::controller::Controller;
 use bank::meaning::Bank;
+use rules::call::Call;
 use rules::refusal::Refusal;
-use rules::task::{State, Task};
+use rules::task::Task;
 
 impl<B: Bank> Controller<B> {
     fn do_release(&mut self, task: u32) -> Result<u32, Refusal>
@@ -18,7 +18,7 @@ impl<B: Bank> Controller<B> {
         ensures bank { BankChanges B.Bank (snapshot_of B.Bank self.old) (released task result) self.old.bank self.new.bank }
         ensures keeps { Unchanged result self.old self.new }
     {
-        self.check(task, Call::Release)?;
+        let state = self.check(task, Call::Release(task))?;
         let number = self.releases;
         if number >= 100_000_000 {
             return Err(Refusal::ManyReleases);
@@ -26,7 +26,7 @@ impl<B: Bank> Controller<B> {
         self.table.store(
             task as usize,
             Task {
-                state: State::Going,
+                state,
                 release: number,
                 ..Task::IDLE
             },

@@ -64,7 +64,7 @@ impl<B: Bank> Controller<B> {
         let t = task as usize;
         t < self.tasks
             && matches!(
-                self.table.rows[t].state,
+                self.table.get(t).state,
                 State::HeldBack(_) | State::Waiting(_)
             )
     }

@@ -1,64 +1,60 @@
-ghost use Rattle.std.specs.Prelude.{◌≡◌, ◌<◌, slice_index_or};
+ghost use Rattle.std.specs.Prelude.{◌≡◌, ℕ, ◌<◌, ◌≤◌, false, None, slice_index_or};
 ghost use Rattle.controller.specs.Banks.{BankChanges};
 ghost use Rattle.controller.specs.Of.{setup_of, snapshot_of, Unchanged};
-ghost use Rattle.controller.specs.Ticks.{TicksTask, TicksAll};
+ghost use Rattle.controller.specs.Ticks.{CanTick, TicksAll};
 ghost use Rattle.rules.specs.Answers.{ticked};
 ghost use Rattle.rules.specs.Histories.{History, after};
 ghost use Rattle.rules.specs.Holders.{TickNames};
 ghost use Rattle.rules.specs.Moves.{Does};
+ghost use Rattle.rules.specs.Questions.{late, late_task};
 ghost use Rattle.rules.specs.Runs.{Follows, Runs};
 ghost use Rattle.rules.specs.States.{idle_task};
 
 use crate::controller::Controller;
+use crate::state::ticked;
 use bank::meaning::Bank;
 use rules::refusal::Refusal;
-use rules::task::{State, Task};
-use table::records::Records;
+use rules::task::State;
+use table::tasks::Tasks;
+
+// The records one tick on.
+fn tick_all(tasks: usize, table: &mut Tasks)
+    requires { (tasks ≤ 64) × ((q : ℕ) → q < tasks → CanTick (slice_index_or table.old.records.rows q idle_task)) }
+    ensures { TicksAll tasks table.old.records.rows table.new.records.rows }
+{
+    // by the number of a task, which is its place in the table
+    for t in 0..tasks {
+        table.store(t, ticked(table.get(t)));
+    }
+}
 
 impl<B: Bank> Controller<B> {
-    // The record of a task one tick on, unless it has held for all of its length.
-    fn tick_task(&self, t: usize) -> Option<Task>
+    // Whether a task holds and has used all of its length.
+    fn is_late(&self, t: usize) -> bool
         requires { t < self.now.tasks }
-        ensures { TicksTask (setup_of B.Bank self.now) t (slice_index_or self.now.table.rows t idle_task) self.now.clock result }
+        ensures late { result ≡ late (setup_of B.Bank self.now) (snapshot_of B.Bank self.now) t }
+        ensures ticks { result ≡ false → CanTick (slice_index_or self.now.table.records.rows t idle_task) }
     {
-        let record = self.table.rows[t];
-        match record.state {
-            State::Holding(wanted) => {
-                let length = self.plan.length(t, wanted.resource as usize).unwrap();
-                if record.used >= length as u32 {
-                    return None;
-                }
-                Some(Task {
-                    used: record.used + 1,
-                    ..record
-                })
-            }
-            State::Waiting(_) => Some(Task {
-                blocked: record.blocked + 1,
-                ..record
-            }),
-            // not asked for by `tick_all`, which leaves out the records that stay
-            State::Idle | State::Going | State::HeldBack(_) => Some(record),
-        }
+        let job = self.table.get(t);
+        let State::Holding(wanted) = job.state else {
+            return false;
+        };
+        let length = self.plan.length(t, wanted.resource as usize).unwrap();
+        job.used >= length as u32
     }
 
-    // The records one tick on, or the lowest task that has held for all of its length.
-    fn tick_all(&self) -> Result<[Task; 64], u32>
-        ensures { TicksAll (setup_of B.Bank self.now) (snapshot_of B.Bank self.now) result }
+    // The lowest task that holds and has used all of its length.
+    fn late_task(&self) -> Option<u32>
+        ensures late { result ≡ late_task (setup_of B.Bank self.now) (snapshot_of B.Bank self.now) }
+        ensures ticks { result ≡ None → (q : ℕ) → q < self.now.tasks → CanTick (slice_index_or self.now.table.records.rows q idle_task) }
     {
-        let mut rows = self.table.rows;
         // by the number of a task, which is its place in the table
         for t in 0..self.tasks {
-            // a record that stays is not written: most tasks neither wait nor hold
-            if !matches!(
-                self.table.rows[t].state,
-                State::Waiting(_) | State::Holding(_)
-            ) {
-                continue;
+            if self.is_late(t) {
+                return Some(t as u32);
             }
-            rows[t] = self.tick_task(t).ok_or(t as u32)?;
         }
-        Ok(rows)
+        None
     }
 
     fn do_tick(&mut self) -> Result<u32, Refusal>
@@ -67,11 +63,13 @@ impl<B: Bank> Controller<B> {
         ensures bank { BankChanges B.Bank (snapshot_of B.Bank self.old) (ticked result) self.old.bank self.new.bank }
         ensures keeps { Unchanged result self.old self.new }
     {
-        let rows = self.tick_all().map_err(Refusal::Late)?;
+        if let Some(task) = self.late_task() {
+            return Err(Refusal::Late(task));
+        }
         if self.clock >= 100_000_000 {
             return Err(Refusal::ClockEnds);
         }
-        self.table = Records { rows };
+        tick_all(self.tasks, &mut self.table);
         self.clock += 1;
         Ok(self.clock)
     }

@@ -12,7 +12,7 @@ returns-clause-nearest g c =
     let self = c.args.self.now in
     let a = setup_of g.B.Bank self in
     let s = snapshot_of g.B.Bank self in
-    subst (IsNearestEnd a s) (sym c.nearest.ensures) (nearest_kept (plan_contents self.plan) self.tasks self.table.rows self.keeps_lengths a.told a.resources s.lists s.clock s.releases)
+    subst (IsNearestEnd a s) (sym c.nearest.ensures) (nearest_kept (plan_contents self.plan) self.tasks self.table.records.rows self.keeps_lengths a.told a.resources s.lists s.clock s.releases)
 
 pub returns-clause-run : goal.returns-clause-run
 returns-clause-run g c h run = subst (λ (z : Snapshot). IsNearestEnd (setup_of g.B.Bank c.args.self.now) z c.nearest.result) (stands run) (returns-clause-nearest g c)
