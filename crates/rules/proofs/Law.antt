@@ -1,18 +1,21 @@
 -- The law over every run: what is kept after each call gives the promises.
-use Rattle.std.proofs.Common.{◌≡◌, ℕ, ◌<◌, ◌≤◌, Bool, true, false, [], ◌∷◌, is_some, Some, None, Ok, Err, Option, unwrap_or, sym, refl, ap, ◌∙◌, subst, ⊎_elim, arith}
+use Rattle.std.proofs.Common.{◌≡◌, ℕ, ◌<◌, ◌≤◌, Bool, true, false, [], is_some, Some, None, Ok, Err, Option, unwrap_or, sym, refl, ap, ◌∙◌, subst, ⊎_elim, arith}
 use mathlib.Core.Path.{fun_ext}
 use Rattle.std.proofs.lemmas.Bool.{and_parts, false≢true, both_ways}
 use Rattle.std.specs.List.{AllByRecursion}
 use Rattle.bank.specs.Lists.{request_of}
 use Rattle.bank.specs.Meaning.{Lists}
 use Rattle.plan.specs.Contents.{length_at}
-use Rattle.rules.specs.Answers.{Event, made, released, asked, gave, finished, ticked, Answered}
-use Rattle.rules.specs.Histories.{History, lists, releases, job, wanted, issued, used, holding, pending, state_of, jobs_after, after}
+use Rattle.rules.specs.Answers.{Answered}
+use Rattle.rules.specs.Histories.{History, made, called, lists, releases, job, wanted, issued, used, holding, pending, state_of, jobs_after, after}
 use Rattle.rules.specs.Jobs.{Setup, Snapshot, runs}
 use Rattle.rules.specs.Moves.{Does}
-use Rattle.rules.specs.Promises.{Kept, InMode, AtMost, WithinLength, AnsweredAfter, Lawful}
-use Rattle.rules.specs.Runs.{SetUp, Begins, SoundLists, moment, Runs, starts, goes, LawfulRun, Follows, Starts}
+use Rattle.rules.specs.Promises.{Kept, InMode, AtMost, WithinLength, Lawful}
+use Rattle.rules.specs.Runs.{SetUp, Begins, SoundLists, Runs, starts, goes, LawfulRun, Follows, Starts}
 use Rattle.rules.specs.States.{is_ready, is_pending}
+use Rattle.rules.specs.declared.event.Acceptance.TheVariants.{Release, Ask, Give, Finish, Tick}
+use Rattle.rules.specs.declared.event.Event.{Event}
+use Rattle.rules.specs.declared.event.Event.TheVariants.{Accepted, Refused}
 use Rattle.rules.specs.declared.task.Wanted.{Wanted}
 use Rattle.rules.proofs.Ends.{held_back_lem}
 use Rattle.rules.proofs.Gives.{entries}
@@ -30,17 +33,12 @@ use Rattle.rules.proofs.Words.{words_of, held_in, TaskKept, nobody}
 
 -- each call leaves what every run keeps; a refusal leaves all as it was
 pub stepped : (a : Setup) (set : Setting a) (h : History) (i : InvOf a h) (new : Lists) → SoundOf a new → (e : Event) → Answered a (after a h) e new → Stepped a e new h
-stepped a set h i new sound made d = absurd d
-stepped a set h i new sound (released t (Ok n)) d = released_stepped a h i new t n d
-stepped a set h i new sound (released t (Err why)) d = record { inv = rw d.1 i; agrees = λ q. rw d.1 refl; stays = λ t f e. rw d.1 f }
-stepped a set h i new sound (asked t r m (Ok x)) d = asked_stepped a set h i new t r m x sound d
-stepped a set h i new sound (asked t r m (Err why)) d = record { inv = rw d.1 i; agrees = λ q. rw d.1 refl; stays = λ t f e. rw d.1 f }
-stepped a set h i new sound (gave t (Ok n)) d = gave_stepped a set h i new sound t n d
-stepped a set h i new sound (gave t (Err why)) d = record { inv = rw d.1 i; agrees = λ q. rw d.1 refl; stays = λ t f e. rw d.1 f }
-stepped a set h i new sound (finished t (Ok f)) d = finished_stepped a set h i new sound t f d
-stepped a set h i new sound (finished t (Err why)) d = record { inv = rw d.1 i; agrees = λ q. rw d.1 refl; stays = λ t f e. rw d.1 f }
-stepped a set h i new sound (ticked (Ok n)) d = ticked_stepped a set h i new n d
-stepped a set h i new sound (ticked (Err why)) d = record { inv = rw d.2 i; agrees = λ q. rw d.2 refl; stays = λ t f e. rw d.2 f }
+stepped a set h i new sound (Accepted (Release t n)) d = released_stepped a h i new t n d
+stepped a set h i new sound (Accepted (Ask t r m x)) d = asked_stepped a set h i new t r m x sound d
+stepped a set h i new sound (Accepted (Give t n)) d = gave_stepped a set h i new sound t n d
+stepped a set h i new sound (Accepted (Finish t f)) d = finished_stepped a set h i new sound t f d
+stepped a set h i new sound (Accepted (Tick n)) d = ticked_stepped a set h i new n d
+stepped a set h i new sound (Refused call why) d = record { inv = rw d.same i; agrees = λ q. rw d.same refl; stays = λ t f e. rw d.same f }
 
 -- the promises after a history
 module _ (a : Setup) (set : Setting a) (h : History) (i : InvOf a h) where
@@ -127,7 +125,7 @@ same_snapshot s t e f g k = λ j. record { tasks = fun_ext e j; lists = f j; clo
 
 module _ (a : Setup) (s : Snapshot) (b : Begins a s) (sound : SoundLists a s) where
   abbrev h₀ : History
-  h₀ = moment made s ∷ []
+  h₀ = made s.lists
 
   set₀ : Setting a
   set₀ = setting a s.lists b.set_up
@@ -164,16 +162,8 @@ module _ (a : Setup) (s : Snapshot) (b : Begins a s) (sound : SoundLists a s) wh
     setting = set₀;
     same = same_snapshot s (after a h₀) b.idle refl b.clock b.releases;
     inv = inv₀;
-    lawful = (record { answered = (refl, empty); bank_takes = tt; late_named = tt; next_issued = tt; stays_first = λ t e. absurd (false≢true e); kept = kept a set₀ h₀ inv₀ }, tt);
+    lawful = record { nobody = empty; kept = kept a set₀ h₀ inv₀ };
   }
-
-answered_after : (a : Setup) (e : Event) (h : History) (new : Lists) → Answered a (after a h) e new → AnsweredAfter a e h new
-answered_after a made h new d = absurd d
-answered_after a (released t x) h new d = d
-answered_after a (asked t r m x) h new d = d
-answered_after a (gave t x) h new d = d
-answered_after a (finished t x) h new d = d
-answered_after a (ticked x) h new d = d
 
 pub run_end : {a : Setup} {s : Snapshot} {h : History} → Runs a s h → End a s h
 run_end {a} (starts {s} b sound) = start_end a s b sound
@@ -184,9 +174,9 @@ run_end {a} (goes {s} {t} {h} {e} run sound does) =
     let next = stepped a before.setting h before.inv t.lists sound' e d.answered in
     record {
       setting = before.setting;
-      same = same_snapshot t (after a (moment e t ∷ h)) (λ q. d.tasks q ∙ sym (next.agrees q)) refl d.clock d.releases;
+      same = same_snapshot t (after a (called h e t.lists)) (λ q. d.tasks q ∙ sym (next.agrees q)) refl d.clock d.releases;
       inv = next.inv;
-      lawful = (record { answered = answered_after a e h t.lists d.answered; bank_takes = bank_takes_lem a before.setting h before.inv e t.lists d.answered; late_named = late_named a h before.inv t.lists e d.answered; next_issued = next_lem a h before.inv t.lists e d.answered next.inv; stays_first = next.stays; kept = kept a before.setting (moment e t ∷ h) next.inv }, before.lawful);
+      lawful = (record { answered = d.answered; bank_takes = bank_takes_lem a before.setting h before.inv e t.lists d.answered; late_named = late_named a h before.inv t.lists e d.answered; next_issued = next_lem a h before.inv t.lists e d.answered next.inv; stays_first = next.stays; kept = kept a before.setting (called h e t.lists) next.inv }, before.lawful);
     }
 
 -- a run keeps the law, and where it led to stands as its history says

@@ -1,15 +1,16 @@
 -- From the words of a history to the words after one call more: release and ask.
-use Rattle.std.proofs.Common.{◌≡◌, ℕ, ◌<◌, ◌≤◌, Bool, true, false, cond, not, eqb, ◌∷◌, length, is_some, Some, None, Ok, Option, unwrap_or, sym, refl, ◌∙◌}
+use Rattle.std.proofs.Common.{◌≡◌, ℕ, ◌<◌, ◌≤◌, Bool, true, false, cond, not, eqb, length, is_some, Some, None, Ok, Option, unwrap_or, sym, refl, ◌∙◌}
 use Rattle.std.proofs.lemmas.Bool.{eq-eqb, false≢true}
 use Rattle.text.specs.Questions.{first_no}
 use Rattle.bank.specs.Meaning.{Lists, Sound}
 use Rattle.plan.specs.Contents.{processors}
-use Rattle.rules.specs.Answers.{Event, released, Answered}
-use Rattle.rules.specs.Histories.{History, lists, releases, job, wanted, issued, used, waited, state_of, jobs_after, after, ends}
+use Rattle.rules.specs.Answers.{released, Answered}
+use Rattle.rules.specs.Histories.{History, called, lists, releases, job, wanted, issued, used, waited, state_of, jobs_after, after, ends}
 use Rattle.rules.specs.Jobs.{Setup, first, cluster_of}
 use Rattle.rules.specs.Moves.{moved_task}
 use Rattle.rules.specs.Questions.{work_questions}
 use Rattle.rules.specs.States.{is_idle, is_ready, is_holding, released_task}
+use Rattle.rules.specs.declared.event.Event.{Event}
 use Rattle.rules.specs.declared.task.Task.{Task}
 use Rattle.rules.specs.declared.task.Wanted.{Wanted}
 use Rattle.rules.proofs.Accepted.{accepted_release, accepted_work, first_unfinished}
@@ -31,14 +32,11 @@ InvOf a h = Inv a nobody (words_of a h) (lists h) (releases h)
 abbrev pub SoundOf : Setup → Lists → Type 0
 SoundOf a ls = (r : ℕ) → r < a.resources → Sound a.told r (ls r)
 
-abbrev pub added : Event → Lists → History → History
-added e new h = record { event = e; lists = new } ∷ h
-
 -- what a call leaves
 pub record Stepped (a : Setup) (e : Event) (new : Lists) (h : History) : Type 0 where
-  pub inv : InvOf a (added e new h)
-  pub agrees : (q : ℕ) → (after a (added e new h)).tasks q ≡ moved_task (after a h) e new q
-  pub stays : (t : ℕ) → first a (jobs_after h) t ≡ true → ends t e ≡ false → first a (jobs_after (added e new h)) t ≡ true
+  pub inv : InvOf a (called h e new)
+  pub agrees : (q : ℕ) → (after a (called h e new)).tasks q ≡ moved_task (after a h) e new q
+  pub stays : (t : ℕ) → first a (jobs_after h) t ≡ true → ends t e ≡ false → first a (jobs_after (called h e new)) t ≡ true
 
 -- the record of a task, by its words
 abbrev pub task_of : ℕ → TaskWords → Lists → Task
@@ -68,7 +66,7 @@ not_held k q ls e = rw e refl
 module _ (a : Setup) (h : History) (i : InvOf a h) (new : Lists) where
   module _ (p m : ℕ) (d : Answered a (after a h) (released p (Ok m)) new) where
     idle : job p h ≡ None
-    idle = idle_shape (job p h) (wanted p h) (issued p h) (held_in p (words_of a h p) (lists h)) (accepted_release a (after a h) p d.0).1
+    idle = idle_shape (job p h) (wanted p h) (issued p h) (held_in p (words_of a h p) (lists h)) (accepted_release a (after a h) p d.passed).1
 
     free : wanted p h ≡ None
     free = (i.tasks p).no_job idle
@@ -76,19 +74,19 @@ module _ (a : Setup) (h : History) (i : InvOf a h) (new : Lists) where
     quiet : issued p h ≡ false
     quiet = (i.tasks p).no_request free
 
-    changed : Changed (words_of a h) (words_of a (added (released p (Ok m)) new h)) p (record { job = Some (releases h); wanted = None; issued = false; used = 0; waited = waited p h; job_waited = 0; blocked = 0 })
+    changed : Changed (words_of a h) (words_of a (called h (released p (Ok m)) new)) p (record { job = Some (releases h); wanted = None; issued = false; used = 0; waited = waited p h; job_waited = 0; blocked = 0 })
     changed = record {
       self = let z : used p h ≡ 0 = (i.tasks p).unused (not_held (words_of a h p) p (lists h) quiet) in rw (eq-eqb p p refl) (λ j. record { job = Some (releases h); wanted = free j; issued = quiet j; used = z j; waited = waited p h; job_waited = 0; blocked = 0 });
       others = λ q e. rw e refl;
     }
 
     lt : p < a.tasks
-    lt = (accepted_release a (after a h) p d.0).0
+    lt = (accepted_release a (after a h) p d.passed).0
 
     pub released_stepped : Stepped a (released p (Ok m)) new h
     released_stepped = record {
-      inv = rw d.2 (release_step a (words_of a h) (words_of a (added (released p (Ok m)) new h)) (lists h) (releases h) p i lt idle changed);
-      agrees = each_task (words_of a h) (words_of a (added (released p (Ok m)) new h)) p _ changed (λ q k. task_of q k new ≡ cond (eqb p q) (released_task m) (task_of q (words_of a h q) (lists h)))
-          (rw (eq-eqb p p refl, d.1) refl) (λ q e. rw (e, d.2) refl);
-      stays = λ t f g. rw d.2 (first_begun a (words_of a h) (words_of a (added (released p (Ok m)) new h)) (lists h) (releases h) p i lt idle changed t (sym (unfinished_job a (words_of a h) (lists h) t) ∙ first_unfinished a (jobs_after h) t f) ∙ f);
+      inv = rw d.gives.1 (release_step a (words_of a h) (words_of a (called h (released p (Ok m)) new)) (lists h) (releases h) p i lt idle changed);
+      agrees = each_task (words_of a h) (words_of a (called h (released p (Ok m)) new)) p _ changed (λ q k. task_of q k new ≡ cond (eqb p q) (released_task m) (task_of q (words_of a h q) (lists h)))
+          (rw (eq-eqb p p refl, d.gives.0) refl) (λ q e. rw (e, d.gives.1) refl);
+      stays = λ t f g. rw d.gives.1 (first_begun a (words_of a h) (words_of a (called h (released p (Ok m)) new)) (lists h) (releases h) p i lt idle changed t (sym (unfinished_job a (words_of a h) (lists h) t) ∙ first_unfinished a (jobs_after h) t f) ∙ f);
     }

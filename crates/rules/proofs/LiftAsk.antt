@@ -8,7 +8,7 @@ use Rattle.plan.specs.Contents.{length_at}
 use Rattle.text.specs.Questions.{first_no}
 use Rattle.rules.specs.Questions.{work_questions}
 use Rattle.rules.specs.Answers.{asked, Answered, Asks, Issues}
-use Rattle.rules.specs.Histories.{History, lists, releases, job, wanted, issued, used, waited, state_of, jobs_after, after, is_issued}
+use Rattle.rules.specs.Histories.{History, called, lists, releases, job, wanted, issued, used, waited, state_of, jobs_after, after, is_issued}
 use Rattle.rules.specs.Jobs.{Setup, first}
 use Rattle.rules.specs.Moves.{is_held}
 use Rattle.rules.specs.States.{asked_state, issued_state, in_state}
@@ -18,7 +18,7 @@ use Rattle.rules.specs.declared.task.State.{State}
 use Rattle.rules.specs.declared.task.State.TheVariants.{HeldBack}
 use Rattle.rules.specs.declared.task.Wanted.{Wanted}
 use Rattle.rules.proofs.Accepted.{accepted_ask}
-use Rattle.rules.proofs.Lift.{Setting, InvOf, SoundOf, added, Stepped, task_of, going, not_held}
+use Rattle.rules.proofs.Lift.{Setting, InvOf, SoundOf, Stepped, task_of, going, not_held}
 use Rattle.rules.proofs.Steps.{same_job, ask_step, issue_step, entry_new, entered_others}
 use Rattle.rules.proofs.Words.{TaskWords, words_of, held_in, jobs_of, Placed, Inv, nobody, Changed, each_task, first_jobs, state_same}
 
@@ -63,7 +63,7 @@ module _ (a : Setup) (set : Setting a) (h : History) (i : InvOf a h) (new : List
     zero_used : used p h ≡ 0
     zero_used = (i.tasks p).unused (not_held (words_of a h p) p (lists h) quiet)
 
-    back_changed : Changed (words_of a h) (words_of a (added (asked p r m (Ok Back)) new h)) p (asking_words (words_of a h p) w)
+    back_changed : Changed (words_of a h) (words_of a (called h (asked p r m (Ok Back)) new)) p (asking_words (words_of a h p) w)
     back_changed = record {
       self = rw (eq-eqb p p refl) (λ j. record { job = job p h; wanted = Some w; issued = quiet j; used = zero_used j; waited = waited p h; job_waited = (words_of a h p).job_waited; blocked = (words_of a h p).blocked });
       others = λ q e. rw e refl;
@@ -81,15 +81,15 @@ module _ (a : Setup) (set : Setting a) (h : History) (i : InvOf a h) (new : List
     }
       where
         ks' : ℕ → TaskWords
-        ks' = words_of a (added (asked p r m (Ok Back)) new h)
+        ks' = words_of a (called h (asked p r m (Ok Back)) new)
 
         jobs : (q : ℕ) → (ks' q).job ≡ (words_of a h q).job
         jobs = same_job (words_of a h) ks' p _ back_changed refl
 
     -- a request is issued by an ask
-    module _ (x : Asked) (holds : Bool) (is : is_issued x ≡ true) (st : asked_state x w ≡ issued_state holds w) (early : first a (jobs_after h) p ≡ true) (enter : Issues a (after a h) p r m holds new) (sound : SoundOf a new) (lt : p < a.tasks) where
+    module _ (x : Asked) (holds : Bool) (is : is_issued x ≡ true) (st : asked_state x w ≡ issued_state holds w) (early : first a (jobs_after h) p ≡ true) (enter : Issues a (after a h) p w holds new) (sound : SoundOf a new) (lt : p < a.tasks) where
       abbrev ks' : ℕ → TaskWords
-      ks' = words_of a (added (asked p r m (Ok x)) new h)
+      ks' = words_of a (called h (asked p r m (Ok x)) new)
 
       abbrev ks₁ : ℕ → TaskWords
       ks₁ = update (words_of a h) p (asking_words (words_of a h p) w)
@@ -143,10 +143,10 @@ module _ (a : Setup) (set : Setting a) (h : History) (i : InvOf a h) (new : List
       }
 
   pub asked_stepped : (x : Asked) → SoundOf a new → Answered a (after a h) (asked p r m (Ok x)) new → Stepped a (asked p r m (Ok x)) new h
-  asked_stepped x sound d = go x d.1
+  asked_stepped x sound d = go x d.gives
     where
       ok : (p < a.tasks) × (r < a.resources) × (knows a.told r m ≡ true) × (is_some (length_at a.plan p r) ≡ true) × (first_no (work_questions a (after a h) p) ≡ None)
-      ok = accepted_ask a (after a h) p r m d.0
+      ok = accepted_ask a (after a h) p r m d.passed
 
       g : (is_some (job p h) ≡ true) × (wanted p h ≡ None)
       g = going a h p ok.4
@@ -154,7 +154,7 @@ module _ (a : Setup) (set : Setting a) (h : History) (i : InvOf a h) (new : List
       place : Placed a p w
       place = record { there = ok.1; known = ok.2; declared = ok.3 }
 
-      go : (x : Asked) → Asks a (after a h) p r m x new → Stepped a (asked p r m (Ok x)) new h
+      go : (x : Asked) → Asks a (after a h) p w x new → Stepped a (asked p r m (Ok x)) new h
       go Hold k = issued_stepped g place Hold true refl refl k.0 k.1 sound ok.0
       go Wait k = issued_stepped g place Wait false refl refl k.0 k.1 sound ok.0
       go Back k = back_stepped g place k.0 k.1

@@ -3,10 +3,11 @@ use Rattle.std.proofs.Common.{◌≡◌, ℕ, ◌<◌, Bool, true, false, cond, 
 use mathlib.Core.Path.{fun_ext}
 use Rattle.std.proofs.lemmas.Bool.{eqb-true, eqb-false, eq-eqb, ne_eqb, false≢true}
 use Rattle.bank.specs.Meaning.{Lists}
-use Rattle.rules.specs.Answers.{finished, Answered, IssuesNext, Issues, resource_of}
-use Rattle.rules.specs.Histories.{History, lists, releases, job, wanted, issued, used, waited, state_of, jobs_after, after}
+use Rattle.rules.specs.Answers.{finished, Answered, IssuesNext, Issues}
+use Rattle.rules.specs.Histories.{History, called, lists, releases, job, wanted, issued, used, waited, state_of, jobs_after, after}
 use Rattle.rules.specs.Jobs.{Setup, Jobs, jobs_in, first, ended, next_issued}
 use Rattle.rules.specs.Moves.{is_held, issued_task}
+use Rattle.rules.specs.Questions.{wanted_by}
 use Rattle.rules.specs.States.{issued_state, wanted_of, idle_task}
 use Rattle.rules.specs.declared.answer.Finished.{Finished}
 use Rattle.rules.specs.declared.answer.Issued.{Issued}
@@ -16,7 +17,7 @@ use Rattle.rules.specs.declared.task.Task.{Task}
 use Rattle.rules.specs.declared.task.Wanted.{Wanted}
 use Rattle.rules.proofs.Accepted.{accepted_finish}
 use Rattle.rules.proofs.Ends.{next_of, only, ended_words, end_step, stays_first_lem, next_back}
-use Rattle.rules.proofs.Lift.{Setting, InvOf, SoundOf, added, Stepped, task_of, going, not_held}
+use Rattle.rules.proofs.Lift.{Setting, InvOf, SoundOf, Stepped, task_of, going, not_held}
 use Rattle.rules.proofs.LiftAsk.{update, updated, back_state, issued_state_lem, issued_words}
 use Rattle.rules.proofs.Steps.{same_job, issue_step, entry_new, entered_others}
 use Rattle.rules.proofs.Words.{TaskWords, words_of, held_in, state_in, jobs_of, Inv, Changed, each_task, first_jobs, state_same}
@@ -100,30 +101,30 @@ module _ (a : Setup) (h : History) (i : InvOf a h) (p : ℕ) (free : wanted p h 
     abbrev e₀ : Finished
     e₀ = record { blocked = f; issued = None }
 
-    changed : Changed (words_of a h) (words_of a (added (finished p (Ok e₀)) new h)) p (ended_words (words_of a h p))
+    changed : Changed (words_of a h) (words_of a (called h (finished p (Ok e₀)) new)) p (ended_words (words_of a h p))
     changed = record {
       self = rw (eq-eqb p p refl) (λ j. record { job = None; wanted = free j; issued = quiet j; used = zero_used j; waited = waited p h; job_waited = 0; blocked = 0 });
       others = λ q e. rw e refl;
     }
 
-    all_same : (q : ℕ) → words_of a (added (finished p (Ok e₀)) new h) q ≡ ks₁ q
+    all_same : (q : ℕ) → words_of a (called h (finished p (Ok e₀)) new) q ≡ ks₁ q
     all_same q = go (eqb p q) refl
       where
-        go : (b : Bool) → eqb p q ≡ b → words_of a (added (finished p (Ok e₀)) new h) q ≡ ks₁ q
-        go true e = subst (λ (z : ℕ). words_of a (added (finished p (Ok e₀)) new h) z ≡ ks₁ z) (eqb-true p q e) (changed.self ∙ sym first_change.self)
+        go : (b : Bool) → eqb p q ≡ b → words_of a (called h (finished p (Ok e₀)) new) q ≡ ks₁ q
+        go true e = subst (λ (z : ℕ). words_of a (called h (finished p (Ok e₀)) new) z ≡ ks₁ z) (eqb-true p q e) (changed.self ∙ sym first_change.self)
         go false e = changed.others q e ∙ sym (first_change.others q e)
 
     pub nothing_stepped : Stepped a (finished p (Ok e₀)) new h
     nothing_stepped = record {
       inv = rw (same, fun_ext all_same) (rw none at ended_inv);
-      agrees = each_task (words_of a h) (words_of a (added (finished p (Ok e₀)) new h)) p _ changed (λ q k. task_of q k new ≡ cond (eqb p q) idle_task (task_of q (words_of a h q) (lists h)))
+      agrees = each_task (words_of a h) (words_of a (called h (finished p (Ok e₀)) new)) p _ changed (λ q k. task_of q k new ≡ cond (eqb p q) idle_task (task_of q (words_of a h q) (lists h)))
           (rw (eq-eqb p p refl) refl) (λ q e. rw (e, same) refl);
-      stays = λ t g e. first_jobs a ks₁ (words_of a (added (finished p (Ok e₀)) new h)) (lists h) new (λ q. ap (λ (k : TaskWords). k.job) (all_same q)) t ∙ ends_first t e g;
+      stays = λ t g e. first_jobs a ks₁ (words_of a (called h (finished p (Ok e₀)) new)) (lists h) new (λ q. ap (λ (k : TaskWords). k.job) (all_same q)) t ∙ ends_first t e g;
     }
 
   -- the next request is issued
   module _ (set : Setting a) (lt : p < a.tasks) (f : ℕ) (x : Issued) (new : Lists) (sound : SoundOf a new) (next : next_issued a (after a h) p ≡ Some x.task)
-      (enter : Issues a (after a h) x.task (resource_of a (after a h) x.task) (wanted_of ((after a h).tasks x.task).state).mode x.holds new) where
+      (enter : Issues a (after a h) x.task (wanted_by (after a h) x.task) x.holds new) where
     abbrev e₁ : Finished
     e₁ = record { blocked = f; issued = Some x }
 
@@ -136,14 +137,14 @@ module _ (a : Setup) (h : History) (i : InvOf a h) (p : ℕ) (free : wanted p h 
     abbrev w : Wanted
     w = n.wanted
 
-    wanted_is : wanted_of ((after a h).tasks u).state ≡ w
+    wanted_is : wanted_by (after a h) u ≡ w
     wanted_is = ap wanted_of n.state
 
-    entered : Issues a (after a h) u w.resource w.mode x.holds new
-    entered = subst (λ (v : Wanted). Issues a (after a h) u v.resource v.mode x.holds new) wanted_is enter
+    entered : Issues a (after a h) u w x.holds new
+    entered = subst (λ (v : Wanted). Issues a (after a h) u v x.holds new) wanted_is enter
 
     abbrev ks' : ℕ → TaskWords
-    ks' = words_of a (added (finished p (Ok e₁)) new h)
+    ks' = words_of a (called h (finished p (Ok e₁)) new)
 
     off : eqb u p ≡ false
     off = ne_eqb u p (λ e. eqb-false p u n.other (sym e))
@@ -202,10 +203,10 @@ module _ (a : Setup) (h : History) (i : InvOf a h) (p : ℕ) (free : wanted p h 
 
 module _ (a : Setup) (set : Setting a) (h : History) (i : InvOf a h) (new : Lists) (sound : SoundOf a new) (p : ℕ) where
   pub finished_stepped : (f : Finished) → Answered a (after a h) (finished p (Ok f)) new → Stepped a (finished p (Ok f)) new h
-  finished_stepped f d = go (next_issued a (after a h) p) refl f.issued refl d.2
+  finished_stepped f d = go (next_issued a (after a h) p) refl f.issued refl d.gives.1
     where
       ok : (p < a.tasks) × (wanted p h ≡ None)
-      ok = let x = accepted_finish a (after a h) p d.0 in (x.0, (going a h p x.1).1)
+      ok = let x = accepted_finish a (after a h) p d.passed in (x.0, (going a h p x.1).1)
 
       go : (o : Option ℕ) → next_issued a (after a h) p ≡ o → (s : Option Issued) → f.issued ≡ s → IssuesNext a (after a h) o s new → Stepped a (finished p (Ok (record { blocked = f.blocked; issued = s }))) new h
       go None e None g k = nothing_stepped a h i p ok.1 f.blocked new e k
@@ -213,4 +214,4 @@ module _ (a : Setup) (set : Setting a) (h : History) (i : InvOf a h) (new : List
       go (Some u) e None g k = absurd k
       go (Some u) e (Some x) g k =
           next_stepped a h i p ok.1 set ok.0 f.blocked x new sound (e ∙ ap (λ (z : ℕ). Some z) (sym k.0))
-          (subst (λ (z : ℕ). Issues a (after a h) z (resource_of a (after a h) z) (wanted_of ((after a h).tasks z).state).mode x.holds new) (sym k.0) k.1)
+          (subst (λ (z : ℕ). Issues a (after a h) z (wanted_by (after a h) z) x.holds new) (sym k.0) k.1)

@@ -5,7 +5,7 @@ use Rattle.bank.specs.Lists.{request_of}
 use Rattle.bank.specs.Meaning.{Lists}
 use Rattle.bank.specs.declared.request.Request.{Request}
 use Rattle.rules.specs.Answers.{gave, ticked, Answered}
-use Rattle.rules.specs.Histories.{History, lists, releases, job, wanted, issued, used, state_of, entry_of, after}
+use Rattle.rules.specs.Histories.{History, called, lists, releases, job, wanted, issued, used, state_of, entry_of, after}
 use Rattle.rules.specs.Jobs.{Setup}
 use Rattle.rules.specs.Moves.{is_held, let_in, let_in_state, ticked_task, one_more_if}
 use Rattle.rules.specs.Questions.{late_task, late, late_in, length_for}
@@ -17,7 +17,7 @@ use Rattle.rules.specs.declared.task.Wanted.{Wanted}
 use Rattle.rules.proofs.Accepted.{accepted_give, accepted_tick}
 use Rattle.rules.proofs.Counts.{lowest_none}
 use Rattle.rules.proofs.Gives.{At, give_step, left_held}
-use Rattle.rules.proofs.Lift.{Setting, InvOf, SoundOf, added, Stepped, task_of}
+use Rattle.rules.proofs.Lift.{Setting, InvOf, SoundOf, Stepped, task_of}
 use Rattle.rules.proofs.Steps.{some_none, has_job, same_job}
 use Rattle.rules.proofs.Ticks.{tick_step, blocked_waits, held_or_waits}
 use Rattle.rules.proofs.Words.{TaskWords, words_of, held_in, waits_in, Placed, Changed, each_task, first_jobs}
@@ -68,7 +68,7 @@ module _ (r : ℕ) (q : ℕ) (new : Lists) (n u b : ℕ) where
 
 module _ (a : Setup) (set : Setting a) (h : History) (i : InvOf a h) (new : Lists) (sound : SoundOf a new) (p m : ℕ) (d : Answered a (after a h) (gave p (Ok m)) new) where
   accepted : (p < a.tasks) × (is_holding ((after a h).tasks p).state ≡ true)
-  accepted = accepted_give a (after a h) p d.0
+  accepted = accepted_give a (after a h) p d.passed
 
   shape : Holds (job p h) (wanted p h) (issued p h) (held_in p (words_of a h p) (lists h))
   shape = holding_shape (job p h) (wanted p h) (issued p h) (held_in p (words_of a h p) (lists h)) accepted.1
@@ -89,10 +89,10 @@ module _ (a : Setup) (set : Setting a) (h : History) (i : InvOf a h) (new : List
   at = record { wanted = shape.wanted; is = shape.is; there = there; issued = shape.issued }
 
   others : (q : ℕ) → q < a.resources → (q ≡ r → ⊥) → new q ≡ lists h q
-  others q l ne = d.2.2 q (subst (λ (z : ℕ). q < z) (sym (set.resources (omega (arith, accepted.0)))) l) ne
+  others q l ne = d.gives.1.2 q (subst (λ (z : ℕ). q < z) (sym (set.resources (omega (arith, accepted.0)))) l) ne
 
   abbrev ks' : ℕ → TaskWords
-  ks' = words_of a (added (gave p (Ok m)) new h)
+  ks' = words_of a (called h (gave p (Ok m)) new)
 
   changed : Changed (words_of a h) ks' p (given_words (words_of a h p))
   changed = record { self = rw (eq-eqb p p refl) refl; others = λ q e. rw e refl }
@@ -103,14 +103,14 @@ module _ (a : Setup) (set : Setting a) (h : History) (i : InvOf a h) (new : List
   other : (q : ℕ) → eqb p q ≡ false → task_of q (words_of a h q) new ≡ let_in r (new r) q (task_of q (words_of a h q) (lists h))
   other q e =
       let_in_other r q new (unwrap_or (job q h) 0) (used q h) (words_of a h q).blocked (job q h) (wanted q h) (issued q h) (held_in q (words_of a h q) (lists h)) (held_in q (words_of a h q) new)
-      (λ f g. left_held a set.known (words_of a h) ks' (lists h) new (releases h) p r i lr at shape.held d.2.1 others sound changed q e g)
+      (λ f g. left_held a set.known (words_of a h) ks' (lists h) new (releases h) p r i lr at shape.held d.gives.1.1 others sound changed q e g)
       (λ f. (i.tasks q).unused f)
       (λ w x y z. entry_at q w new x y ∙ ap (λ (k : ℕ). is_held (request_of q (new k))) z)
       (λ w x y ne. entry_at q w new x y ∙ ap (λ (xs : List Request). is_held (request_of q xs)) (others w.resource ((i.tasks q).placed w x).there ne) ∙ sym (entry_at q w (lists h) x y))
 
   pub gave_stepped : Stepped a (gave p (Ok m)) new h
   gave_stepped = record {
-    inv = give_step a set.known (words_of a h) ks' (lists h) new (releases h) p r i lr at shape.held d.2.1 others sound changed;
+    inv = give_step a set.known (words_of a h) ks' (lists h) new (releases h) p r i lr at shape.held d.gives.1.1 others sound changed;
     agrees = each_task (words_of a h) ks' p _ changed (λ q k. task_of q k new ≡ let_in r (new r) q (cond (eqb p q) (in_state Going (task_of q (words_of a h q) (lists h))) (task_of q (words_of a h q) (lists h))))
         (rw (eq-eqb p p refl) (ap (λ (st : State). record { state = st; release = unwrap_or (job p h) 0; used = 0; blocked = (words_of a h p).blocked }) (going_state (job p h) shape.job)))
         (λ q e. rw e (other q e));
@@ -124,7 +124,7 @@ module _ (a : Setup) (set : Setting a) (h : History) (i : InvOf a h) (new : List
 -- a tick
 module _ (a : Setup) (set : Setting a) (h : History) (i : InvOf a h) (new : Lists) (m : ℕ) (d : Answered a (after a h) (ticked (Ok m)) new) where
   nobody_late : late_task a (after a h) ≡ None
-  nobody_late = accepted_tick a (after a h) d.0
+  nobody_late = accepted_tick a (after a h) d.passed
 
   in_time_lem : (j : Option ℕ) (o : Option Wanted) (b x : Bool) (q u : ℕ) → late_in a q u (state_of j o b x) ≡ false → is_some j ≡ true → b ≡ true → x ≡ true → (w : Wanted) → o ≡ Some w → u < length_for a q w.resource
   in_time_lem None o b x q u l ej eb ex w e = absurd (false≢true ej)
@@ -151,9 +151,9 @@ module _ (a : Setup) (set : Setting a) (h : History) (i : InvOf a h) (new : List
 
   pub ticked_stepped : Stepped a (ticked (Ok m)) new h
   ticked_stepped = record {
-    inv = rw d.2 (tick_step a set.known (words_of a h) (lists h) (releases h) i early);
-    agrees = λ q. rw (d.2, blocked_waits a (words_of a h) (lists h) (releases h) i q)
+    inv = rw d.gives.1 (tick_step a set.known (words_of a h) (lists h) (releases h) i early);
+    agrees = λ q. rw (d.gives.1, blocked_waits a (words_of a h) (lists h) (releases h) i q)
         (tick_task (unwrap_or (job q h) 0) (used q h) (words_of a h q).blocked (job q h) (wanted q h) (issued q h) (held_in q (words_of a h q) (lists h)) (waits_in q (words_of a h q) (lists h))
         (i.tasks q).no_job (i.tasks q).no_request (held_or_waits a (releases h) (lists h) q (words_of a h q) (i.tasks q)) (λ e. (rw e refl, rw e refl)));
-    stays = λ t f e. rw d.2 (first_jobs a (words_of a h) (words_of a (added (ticked (Ok m)) new h)) (lists h) (lists h) (λ q. refl) t ∙ f);
+    stays = λ t f e. rw d.gives.1 (first_jobs a (words_of a h) (words_of a (called h (ticked (Ok m)) new)) (lists h) (lists h) (λ q. refl) t ∙ f);
   }

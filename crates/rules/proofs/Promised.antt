@@ -4,33 +4,33 @@ use Rattle.std.proofs.Common.{◌≡◌, ℕ, zero, suc, ◌<◌, ◌≤◌, Boo
 use Rattle.std.proofs.lemmas.Bool.{and_parts, and_from, eqb-true, eq-eqb, ne_eqb, ltb-true, lt-ltb, leb-true, not-true, false≢true, both_ways}
 use Rattle.bank.specs.Meaning.{Lists}
 use Rattle.plan.specs.Contents.{processors}
-use Rattle.rules.specs.Answers.{Event, made, released, asked, gave, finished, ticked, Answered, IssuesNext}
-use Rattle.rules.specs.Histories.{History, lists, releases, job, wanted, issued, held_back, jobs_after, after, is_for}
+use Rattle.rules.specs.Answers.{finished, Answered, IssuesNext}
+use Rattle.rules.specs.Histories.{History, called, lists, releases, job, wanted, issued, held_back, jobs_after, after, is_for}
 use Rattle.rules.specs.Holders.{NamesLate}
 use Rattle.rules.specs.Jobs.{Setup, count_below, first, next_issued}
 use Rattle.rules.specs.Promises.{is_at, LateNamed, NextIssued, IssuesFirst, requests_to}
 use Rattle.rules.specs.declared.answer.Finished.{Finished}
 use Rattle.rules.specs.declared.answer.Issued.{Issued}
+use Rattle.rules.specs.declared.call.Call.{Call}
+use Rattle.rules.specs.declared.event.Acceptance.{Acceptance}
+use Rattle.rules.specs.declared.event.Event.{Event}
+use Rattle.rules.specs.declared.event.Event.TheVariants.{Accepted, Refused}
 use Rattle.rules.specs.declared.task.Wanted.{Wanted}
 use Rattle.rules.proofs.Accepted.{accepted_finish, accepted_tick}
 use Rattle.rules.proofs.Counts.{count_join, count_mono}
 use Rattle.rules.proofs.Entries.{listed}
 use Rattle.rules.proofs.Gives.{At, exists, listed_at, listed_once_lem}
 use Rattle.rules.proofs.Holders.{names_late}
-use Rattle.rules.proofs.Lift.{Setting, InvOf, added, going}
+use Rattle.rules.proofs.Lift.{Setting, InvOf, going}
 use Rattle.rules.proofs.LiftFinish.{Next, next_known}
 use Rattle.rules.proofs.Places.{seats, listed_length}
 use Rattle.rules.proofs.Words.{words_of, nobody, numbered}
 
 -- the lowest late task is named
 pub late_named : (a : Setup) (h : History) (i : InvOf a h) (new : Lists) (e : Event) → Answered a (after a h) e new → LateNamed a e h
-late_named a h i new made d = tt
-late_named a h i new (released t x) d = tt
-late_named a h i new (asked t r m x) d = tt
-late_named a h i new (gave t x) d = tt
-late_named a h i new (finished t x) d = tt
-late_named a h i new (ticked (Ok n)) d = subst (NamesLate a (after a h)) (accepted_tick a (after a h) d.0) (names_late a h i)
-late_named a h i new (ticked (Err why)) d = subst (NamesLate a (after a h)) (sym d.1) (names_late a h i)
+late_named a h i new (Accepted (Acceptance.Tick n)) d = subst (NamesLate a (after a h)) (accepted_tick a (after a h) d.passed) (names_late a h i)
+late_named a h i new (Refused Call.Tick why) d = subst (NamesLate a (after a h)) (sym d.named) (names_late a h i)
+late_named a h i new _ d = tt
 
 -- whose request is not given back and not issued, is held back
 back_words : (t : ℕ) (h : History) → is_some (wanted t h) ≡ true → issued t h ≡ false → held_back t h ≡ true
@@ -40,9 +40,9 @@ back_parts : (t : ℕ) (h : History) → held_back t h ≡ true → (is_some (wa
 back_parts t h e = let x = and_parts (is_some (wanted t h)) (not (issued t h)) e in (x.0, not-true (issued t h) x.1)
 
 -- a held-back request is issued by a finish exactly where its job is then among the first
-module _ (a : Setup) (h : History) (i : InvOf a h) (new : Lists) (t : ℕ) (f : Finished) (next : InvOf a (added (finished t (Ok f)) new h)) where
+module _ (a : Setup) (h : History) (i : InvOf a h) (new : Lists) (t : ℕ) (f : Finished) (next : InvOf a (called h (finished t (Ok f)) new)) where
   abbrev then_first : ℕ → Bool
-  then_first u = first a (jobs_after (added (finished t (Ok f)) new h)) u
+  then_first u = first a (jobs_after (called h (finished t (Ok f)) new)) u
 
   comes_first : (u : ℕ) → held_back u h ≡ true → then_first u ≡ is_for u f.issued
   comes_first u e =
@@ -53,7 +53,7 @@ module _ (a : Setup) (h : History) (i : InvOf a h) (new : Lists) (t : ℕ) (f : 
       last true c e = refl
       last false c e = e
 
-  issues_first : wanted t h ≡ None → (o : Option ℕ) (x : Option Issued) → next_issued a (after a h) t ≡ o → f.issued ≡ x → IssuesNext a (after a h) o x new → IssuesFirst a h (jobs_after (added (finished t (Ok f)) new h)) x
+  issues_first : wanted t h ≡ None → (o : Option ℕ) (x : Option Issued) → next_issued a (after a h) t ≡ o → f.issued ≡ x → IssuesNext a (after a h) o x new → IssuesFirst a h (jobs_after (called h (finished t (Ok f)) new)) x
   issues_first free None None e g d = λ u back. comes_first u back ∙ ap (is_for u) g
   issues_first free None (Some x) e g d = absurd d
   issues_first free (Some u) None e g d = absurd d
@@ -65,14 +65,9 @@ module _ (a : Setup) (h : History) (i : InvOf a h) (new : Lists) (t : ℕ) (f : 
         λ v other here. sym (eqb-true x.task v (sym (comes_first v other ∙ ap (is_for v) g) ∙ here)),
       )
 
-pub next_lem : (a : Setup) (h : History) (i : InvOf a h) (new : Lists) (e : Event) → Answered a (after a h) e new → InvOf a (added e new h) → NextIssued a e h (jobs_after (added e new h))
-next_lem a h i new made d next = tt
-next_lem a h i new (released t x) d next = tt
-next_lem a h i new (asked t r m x) d next = tt
-next_lem a h i new (gave t x) d next = tt
-next_lem a h i new (finished t (Ok f)) d next = issues_first a h i new t f next (going a h t (accepted_finish a (after a h) t d.0).1).1 (next_issued a (after a h) t) f.issued refl refl d.2
-next_lem a h i new (finished t (Err why)) d next = tt
-next_lem a h i new (ticked x) d next = tt
+pub next_lem : (a : Setup) (h : History) (i : InvOf a h) (new : Lists) (e : Event) → Answered a (after a h) e new → InvOf a (called h e new) → NextIssued a e h (jobs_after (called h e new))
+next_lem a h i new (Accepted (Acceptance.Finish t f)) d next = issues_first a h i new t f next (going a h t (accepted_finish a (after a h) t d.passed).1).1 (next_issued a (after a h) t) f.issued refl refl d.gives.1
+next_lem a h i new _ d next = tt
 
 module _ (a : Setup) (set : Setting a) (h : History) (i : InvOf a h) where
   pub issued_first : (t : ℕ) → issued t h ≡ true → first a (jobs_after h) t ≡ true

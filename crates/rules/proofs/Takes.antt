@@ -7,13 +7,18 @@ use Rattle.bank.specs.Meaning.{Lists}
 use Rattle.bank.specs.Questions.{Told, knows, enter_questions, leave_questions}
 use Rattle.bank.specs.declared.request.Mode.{Mode}
 use Rattle.bank.specs.declared.request.Request.{Request}
-use Rattle.rules.specs.Answers.{Event, made, released, asked, gave, finished, ticked, Answered, next_questions, issue_questions}
+use Rattle.rules.specs.Answers.{Answered}
 use Rattle.rules.specs.Histories.{History, lists, releases, job, wanted, issued, jobs_after, after, entry_of}
 use Rattle.rules.specs.Jobs.{Setup, first, next_issued}
 use Rattle.rules.specs.Moves.{is_held}
 use Rattle.rules.specs.Promises.{BankTakes}
-use Rattle.rules.specs.Refusals.{Refused, from_bank, number}
+use Rattle.rules.specs.Questions.{questions, bank_questions, issue_questions, next_questions}
+use Rattle.rules.specs.Refusals.{RefusedBy, from_bank, number}
 use Rattle.rules.specs.States.{wanted_of}
+use Rattle.rules.specs.declared.call.Call.{Call}
+use Rattle.rules.specs.declared.call.Call.TheVariants.{Release, Ask, Give, Finish, Tick}
+use Rattle.rules.specs.declared.event.Event.{Event}
+use Rattle.rules.specs.declared.event.Event.TheVariants.{Accepted, Refused}
 use Rattle.rules.specs.declared.refusal.Refusal.{Refusal}
 use Rattle.rules.specs.declared.task.State.{State}
 use Rattle.rules.specs.declared.task.Wanted.{Wanted}
@@ -50,7 +55,7 @@ enter_taken a set x ks ls n i t r m lt lr k early none exempt =
     early_of q l false e = let at = listed_at a n ls q (ks q) (i.tasks q) r lr l in i.firsts q e (ap is_some at.is) ∙ at.issued
 
 -- a refusal with no question of the bank's answered no is the controller's own
-own_of : (own bank : List Question) (why : Refusal) → Refused own bank why → (first_no own ≡ None → first_no bank ≡ None) → from_bank why ≡ false
+own_of : (own bank : List Question) (why : Refusal) → RefusedBy own bank why → (first_no own ≡ None → first_no bank ≡ None) → from_bank why ≡ false
 own_of own bank why d takes = go (from_bank why) refl d.decided
   where
     go : (b : Bool) → from_bank why ≡ b → first_no (cond b bank own) ≡ Some (number why) → from_bank why ≡ false
@@ -58,7 +63,7 @@ own_of own bank why d takes = go (from_bank why) refl d.decided
     go false e f = e
 
 module _ (a : Setup) (set : Setting a) (h : History) (i : InvOf a h) where
-  ask_taken : (p r : ℕ) (m : Mode) → (b : Bool) → first a (jobs_after h) p ≡ b → (p < a.tasks) × (r < a.resources) × (knows a.told r m ≡ true) × (wanted p h ≡ None) → first_no (cond b (issue_questions a (after a h) p r m) []) ≡ None
+  ask_taken : (p r : ℕ) (m : Mode) → (b : Bool) → first a (jobs_after h) p ≡ b → (p < a.tasks) × (r < a.resources) × (knows a.told r m ≡ true) × (wanted p h ≡ None) → first_no (cond b (issue_questions a (after a h) p (record { resource = r; mode = m })) []) ≡ None
   ask_taken p r m true e k =
       enter_taken a set nobody (words_of a h) (lists h) (releases h) i p r m k.0 k.1 k.2 e
       (unlisted a (releases h) (lists h) p (words_of a h p) (i.tasks p) ((i.tasks p).no_request k.3) r k.1) (λ q z. absurd (false≢true z))
@@ -79,19 +84,18 @@ module _ (a : Setup) (set : Setting a) (h : History) (i : InvOf a h) where
       let inv : Inv a (λ t. eqb u t) (ks₁ a h i p free) (lists h) (releases h) = rw e at (ended_inv a h i p free) in
       let place = (i.tasks u).placed w n.is in
       let none : listed u (lists h w.resource) ≡ 0 = unlisted a (releases h) (lists h) u (words_of a h u) (i.tasks u) n.unissued w.resource place.there in
-      subst (λ (v : Wanted). first_no (issue_questions a (after a h) u v.resource v.mode) ≡ None) (sym (ap wanted_of n.state))
+      subst (λ (v : Wanted). first_no (issue_questions a (after a h) u v) ≡ None) (sym (ap wanted_of n.state))
       (enter_taken a set (λ t. eqb u t) (ks₁ a h i p free) (lists h) (releases h) inv u w.resource w.mode ((i.tasks u).known n.job) place.there place.known n.early none
       (λ q z. subst (λ (t : ℕ). listed t (lists h w.resource) ≡ 0) (eqb-true u q z) none))
 
+  -- the bank's questions are answered yes wherever the controller's own are
+  call_taken : (call : Call) → first_no (questions a (after a h) call) ≡ None → first_no (bank_questions a (after a h) call) ≡ None
+  call_taken (Release t) e = refl
+  call_taken (Ask t r m) e = let k = accepted_ask a (after a h) t r m e in ask_taken t r m (first a (jobs_after h) t) refl (k.0, k.1, k.2, (going a h t k.4).1)
+  call_taken (Give t) e = let k = accepted_give a (after a h) t e in give_taken t (holding_shape (job t h) (wanted t h) (issued t h) (held_in t (words_of a h t) (lists h)) k.1) k.0 ((after a h).tasks t).state refl
+  call_taken (Finish t) e = let k = accepted_finish a (after a h) t e in finish_taken t k.0 (going a h t k.1).1 (next_issued a (after a h) t) refl
+  call_taken Tick e = refl
+
   pub bank_takes_lem : (e : Event) (new : Lists) → Answered a (after a h) e new → BankTakes e
-  bank_takes_lem made new d = absurd d
-  bank_takes_lem (released t (Ok n)) new d = tt
-  bank_takes_lem (released t (Err why)) new d = own_of _ [] why d.0 (λ e. refl)
-  bank_takes_lem (asked t r m (Ok x)) new d = tt
-  bank_takes_lem (asked t r m (Err why)) new d = own_of _ _ why d.0 (λ e. let k = accepted_ask a (after a h) t r m e in ask_taken t r m (first a (jobs_after h) t) refl (k.0, k.1, k.2, (going a h t k.4).1))
-  bank_takes_lem (gave t (Ok n)) new d = tt
-  bank_takes_lem (gave t (Err why)) new d = own_of _ _ why d.0 (λ e. let k = accepted_give a (after a h) t e in give_taken t (holding_shape (job t h) (wanted t h) (issued t h) (held_in t (words_of a h t) (lists h)) k.1) k.0 ((after a h).tasks t).state refl)
-  bank_takes_lem (finished t (Ok f)) new d = tt
-  bank_takes_lem (finished t (Err why)) new d = own_of _ _ why d.0 (λ e. let k = accepted_finish a (after a h) t e in finish_taken t k.0 (going a h t k.1).1 (next_issued a (after a h) t) refl)
-  bank_takes_lem (ticked (Ok n)) new d = tt
-  bank_takes_lem (ticked (Err why)) new d = own_of _ [] why d.0 (λ e. refl)
+  bank_takes_lem (Accepted x) new d = tt
+  bank_takes_lem (Refused call why) new d = own_of _ _ why d.by (call_taken call)

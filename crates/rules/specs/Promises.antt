@@ -1,19 +1,22 @@
 -- What holds after every call of every run, over any bank, by the words of a history alone.
-use Rattle.std.specs.Prelude.{◌≡◌, ℕ, zero, suc, ◌+◌, ◌<◌, ◌≤◌, Bool, true, false, cond, not, ◌&&◌, [], ◌∷◌, length, Some, None, Ok, Err, Option, Result, ◌==◌, nat_eq}
+use Rattle.std.specs.Prelude.{◌≡◌, ℕ, zero, suc, ◌+◌, ◌<◌, ◌≤◌, Bool, true, false, cond, not, ◌&&◌, [], length, Some, None, Ok, Err, Option, ◌==◌, nat_eq, ⊤}
 use Rattle.std.specs.List.{AllByRecursion}
 use Rattle.bank.specs.Lists.{count, holds_write, holds_read}
 use Rattle.bank.specs.Meaning.{Lists}
 use Rattle.bank.specs.declared.request.Mode.{Mode}
 use Rattle.plan.specs.Contents.{length_at, processors}
-use Rattle.rules.specs.Answers.{Event, made, released, asked, gave, finished, ticked, Answered}
-use Rattle.rules.specs.Histories.{Moment, History, ends, lists, job, wanted, issued, holding, waiting, held_back, state, jobs_after, used, waited, job_waited, blocked_ticks_of, after}
+use Rattle.rules.specs.Answers.{Answered}
+use Rattle.rules.specs.Histories.{History, made, called, ends, lists, job, wanted, issued, holding, waiting, held_back, state, jobs_after, used, waited, job_waited, blocked_ticks_of, after}
 use Rattle.rules.specs.Holders.{TickNames}
 use Rattle.rules.specs.Jobs.{Setup, Jobs, runs, first}
 use Rattle.rules.specs.Limits.{wait_limit}
 use Rattle.rules.specs.Refusals.{from_bank}
 use Rattle.rules.specs.States.{is_held_back}
 use Rattle.rules.specs.declared.answer.Issued.{Issued}
-use Rattle.rules.specs.declared.refusal.Refusal.{Refusal}
+use Rattle.rules.specs.declared.call.Call.{Call}
+use Rattle.rules.specs.declared.event.Acceptance.TheVariants.{Finish, Tick}
+use Rattle.rules.specs.declared.event.Event.{Event}
+use Rattle.rules.specs.declared.event.Event.TheVariants.{Accepted, Refused}
 use Rattle.rules.specs.declared.task.Wanted.{Wanted}
 
 -- a request is at resource r; it is in mode m
@@ -73,36 +76,15 @@ pub record Kept (a : Setup) (h : History) : Type 0 where
   pub numbers_apart : (t u n : ℕ) → job t h ≡ Some n → job u h ≡ Some n → t ≡ u
 
 -- In a run the bank never refuses the controller.
-abbrev pub OwnRefusal : {A : Type 0} → Result A Refusal → Type 0
-OwnRefusal (Ok x) = Unit {0}
-OwnRefusal (Err why) = from_bank why ≡ false
-
 abbrev pub BankTakes : Event → Type 0
-BankTakes made = Unit {0}
-BankTakes (released t x) = OwnRefusal x
-BankTakes (asked t r m x) = OwnRefusal x
-BankTakes (gave t x) = OwnRefusal x
-BankTakes (finished t x) = OwnRefusal x
-BankTakes (ticked x) = OwnRefusal x
-
--- Answered by the rules, as the history before the call says; the first call makes the controller,
--- over a bank where nobody is active.
-abbrev pub AnsweredAfter : Setup → Event → History → Lists → Type 0
-AnsweredAfter a made h new = (h ≡ []) × ((r : ℕ) → r < a.resources → new r ≡ [])
-AnsweredAfter a (released t x) h new = Answered a (after a h) (released t x) new
-AnsweredAfter a (asked t r m x) h new = Answered a (after a h) (asked t r m x) new
-AnsweredAfter a (gave t x) h new = Answered a (after a h) (gave t x) new
-AnsweredAfter a (finished t x) h new = Answered a (after a h) (finished t x) new
-AnsweredAfter a (ticked x) h new = Answered a (after a h) (ticked x) new
+BankTakes (Accepted x) = ⊤
+BankTakes (Refused call why) = from_bank why ≡ false
 
 -- a tick names the lowest holder that has used all of its length, and nobody where there is none
 abbrev pub LateNamed : Setup → Event → History → Type 0
-LateNamed a made h = Unit {0}
-LateNamed a (released t x) h = Unit {0}
-LateNamed a (asked t r m x) h = Unit {0}
-LateNamed a (gave t x) h = Unit {0}
-LateNamed a (finished t x) h = Unit {0}
-LateNamed a (ticked x) h = TickNames a (after a h) x
+LateNamed a (Accepted (Tick n)) h = TickNames a (after a h) (Ok n)
+LateNamed a (Refused Call.Tick why) h = TickNames a (after a h) (Err why)
+LateNamed a _ h = ⊤
 
 -- of the requests held back after h, the one is issued whose job is then among the first, and none
 -- where there is none
@@ -114,26 +96,27 @@ IssuesFirst a h jobs (Some i) =
     × ((u : ℕ) → held_back u h ≡ true → first a jobs u ≡ true → u ≡ i.task)
 
 abbrev pub NextIssued : Setup → Event → History → Jobs → Type 0
-NextIssued a made h jobs = Unit {0}
-NextIssued a (released t x) h jobs = Unit {0}
-NextIssued a (asked t r m x) h jobs = Unit {0}
-NextIssued a (gave t x) h jobs = Unit {0}
-NextIssued a (finished t (Ok f)) h jobs = IssuesFirst a h jobs f.issued
-NextIssued a (finished t (Err why)) h jobs = Unit {0}
-NextIssued a (ticked x) h jobs = Unit {0}
+NextIssued a (Accepted (Finish t f)) h jobs = IssuesFirst a h jobs f.issued
+NextIssued a _ h jobs = ⊤
 
--- What each call keeps.
-pub record LawfulCall (a : Setup) (m : Moment) (h : History) : Type 0 where
-  pub answered : AnsweredAfter a m.event h m.lists
-  pub bank_takes : BankTakes m.event
-  pub late_named : LateNamed a m.event h
-  pub next_issued : NextIssued a m.event h (jobs_after (m ∷ h))
+-- What each call keeps, after a history and with the bank's lists after it.
+pub record LawfulCall (a : Setup) (h : History) (e : Event) (new : Lists) : Type 0 where
+  -- Answered by the rules, as the history before the call says.
+  pub answered : Answered a (after a h) e new
+  pub bank_takes : BankTakes e
+  pub late_named : LateNamed a e h
+  pub next_issued : NextIssued a e h (jobs_after (called h e new))
   -- The first stay first: a job among the first stays among them until it finishes.
-  pub stays_first : (t : ℕ) → first a (jobs_after h) t ≡ true → ends t m.event ≡ false
-      → first a (jobs_after (m ∷ h)) t ≡ true
-  pub kept : Kept a (m ∷ h)
+  pub stays_first : (t : ℕ) → first a (jobs_after h) t ≡ true → ends t e ≡ false
+      → first a (jobs_after (called h e new)) t ≡ true
+  pub kept : Kept a (called h e new)
 
--- The law: every call of the history keeps it.
+-- A controller is made over a bank where nobody is active.
+pub record LawfulStart (a : Setup) (new : Lists) : Type 0 where
+  pub nobody : (r : ℕ) → r < a.resources → new r ≡ []
+  pub kept : Kept a (made new)
+
+-- The law: the start of the history and every call keep it.
 abbrev pub Lawful : Setup → History → Type 0
-Lawful a [] = Unit {0}
-Lawful a (m ∷ h) = LawfulCall a m h × Lawful a h
+Lawful a (made new) = LawfulStart a new
+Lawful a (called h e new) = LawfulCall a h e new × Lawful a h

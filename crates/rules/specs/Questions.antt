@@ -1,43 +1,19 @@
 -- The questions put at each call, in order; the first answered no decides.
 use Rattle.std.specs.Prelude.{ℕ, zero, suc, Bool, true, false, cond, not, ◌&&◌, List, [], ◌∷◌, length, is_some, Some, None, Option, ◌==◌, nat_le, nat_lt, slice_index}
+use Rattle.std.specs.Bool.{beq}
 use Rattle.std.specs.Option.{unwrap_or}
 use Rattle.bank.specs.Meaning.{Lists}
-use Rattle.bank.specs.Questions.{Told, knows}
+use Rattle.bank.specs.Questions.{Told, knows, enter_questions, leave_questions}
 use Rattle.bank.specs.declared.request.Mode.{Mode}
 use Rattle.plan.specs.Contents.{Contents, length_at, processors, resource_count}
 use Rattle.text.specs.Questions.{Question, ask}
-use Rattle.rules.specs.Jobs.{Setup, Snapshot, jobs_in, runs}
-use Rattle.rules.specs.States.{is_idle, is_holding}
+use Rattle.rules.specs.Jobs.{Setup, Snapshot, jobs_in, runs, first, next_issued}
+use Rattle.rules.specs.States.{is_idle, is_holding, wanted_of}
+use Rattle.rules.specs.declared.call.Call.{Call}
+use Rattle.rules.specs.declared.call.Call.TheVariants.{Release, Ask, Give, Finish, Tick}
 use Rattle.rules.specs.declared.task.State.{State}
-use Rattle.rules.specs.declared.task.State.TheVariants.{Idle, Going, HeldBack, Waiting, Holding}
-
-abbrev pub release_questions : Setup → Snapshot → ℕ → List Question
-release_questions a s t =
-    ask 1 (nat_lt t a.tasks)
-    ∷ (ask 5 (is_idle (s.tasks t).state)
-    ∷ (ask 6 (nat_lt s.releases 100000000)
-    ∷ []))
-
--- the job runs and holds nothing
-abbrev pub work_questions : Setup → Snapshot → ℕ → List Question
-work_questions a s t =
-    ask 7 (runs a (jobs_in s) t)
-    ∷ (ask 8 (not (is_holding (s.tasks t).state))
-    ∷ [])
-
-abbrev pub ask_questions : Setup → Snapshot → ℕ → ℕ → Mode → List Question
-ask_questions a s t r m =
-    ask 1 (nat_lt t a.tasks)
-    ∷ (ask 2 (nat_lt r a.resources)
-    ∷ (ask 3 (knows a.told r m)
-    ∷ (ask 4 (is_some (length_at a.plan t r))
-    ∷ work_questions a s t)))
-
-abbrev pub give_questions : Setup → Snapshot → ℕ → List Question
-give_questions a s t = ask 1 (nat_lt t a.tasks) ∷ (ask 9 (is_holding (s.tasks t).state) ∷ [])
-
-abbrev pub finish_questions : Setup → Snapshot → ℕ → List Question
-finish_questions a s t = ask 1 (nat_lt t a.tasks) ∷ work_questions a s t
+use Rattle.rules.specs.declared.task.State.TheVariants.{Holding}
+use Rattle.rules.specs.declared.task.Wanted.{Wanted}
 
 -- the declared length of a task at a resource, and 0 where none is
 abbrev pub length_for : Setup → ℕ → ℕ → ℕ
@@ -45,11 +21,8 @@ length_for a t r = unwrap_or (length_at a.plan t r) 0
 
 -- a holder has used all of its declared length
 abbrev pub late_in : Setup → ℕ → ℕ → State → Bool
-late_in a t used Idle = false
-late_in a t used Going = false
-late_in a t used (HeldBack w) = false
-late_in a t used (Waiting w) = false
 late_in a t used (Holding w) = nat_le (length_for a t w.resource) used
+late_in a t used _ = false
 
 abbrev pub late : Setup → Snapshot → ℕ → Bool
 late a s t = late_in a t (s.tasks t).used (s.tasks t).state
@@ -63,18 +36,71 @@ lowest_below test (suc n) =
 abbrev pub late_task : Setup → Snapshot → Option ℕ
 late_task a s = lowest_below (late a s) a.tasks
 
-abbrev pub tick_questions : Setup → Snapshot → List Question
-tick_questions a s =
+-- the job runs and holds nothing
+abbrev pub work_questions : Setup → Snapshot → ℕ → List Question
+work_questions a s t =
+    ask 7 (runs a (jobs_in s) t)
+    ∷ ask 8 (not (is_holding (s.tasks t).state))
+    ∷ []
+
+-- the controller's own questions
+abbrev pub questions : Setup → Snapshot → Call → List Question
+questions a s (Release t) =
+    ask 1 (nat_lt t a.tasks)
+    ∷ ask 5 (is_idle (s.tasks t).state)
+    ∷ ask 6 (nat_lt s.releases 100000000)
+    ∷ []
+questions a s (Ask t r m) =
+    ask 1 (nat_lt t a.tasks)
+    ∷ ask 2 (nat_lt r a.resources)
+    ∷ ask 3 (knows a.told r m)
+    ∷ ask 4 (is_some (length_at a.plan t r))
+    ∷ work_questions a s t
+questions a s (Give t) =
+    ask 1 (nat_lt t a.tasks)
+    ∷ ask 9 (is_holding (s.tasks t).state)
+    ∷ []
+questions a s (Finish t) =
+    ask 1 (nat_lt t a.tasks)
+    ∷ work_questions a s t
+questions a s Tick =
     ask 10 (not (is_some (late_task a s)))
-    ∷ (ask 11 (nat_lt s.clock 100000000)
-    ∷ [])
+    ∷ ask 11 (nat_lt s.clock 100000000)
+    ∷ []
+
+-- what a task has asked for and not given back
+abbrev pub wanted_by : Snapshot → ℕ → Wanted
+wanted_by s t = wanted_of (s.tasks t).state
+
+-- the questions of the bank where a request is issued, and where it is that of the task that comes
+-- among the first
+abbrev pub issue_questions : Setup → Snapshot → ℕ → Wanted → List Question
+issue_questions a s t w = enter_questions a.told w.resource t w.mode (s.lists w.resource)
+
+abbrev pub next_questions : Setup → Snapshot → Option ℕ → List Question
+next_questions a s None = []
+next_questions a s (Some u) = issue_questions a s u (wanted_by s u)
+
+-- the questions that the bank puts, where the controller's own are answered yes
+abbrev pub bank_questions : Setup → Snapshot → Call → List Question
+bank_questions a s (Release t) = []
+bank_questions a s (Ask t r m) =
+    cond (first a (jobs_in s) t) (issue_questions a s t (record { resource = r; mode = m })) []
+bank_questions a s (Give t) =
+    leave_questions a.told (wanted_by s t).resource t (s.lists (wanted_by s t).resource)
+bank_questions a s (Finish t) = next_questions a s (next_issued a s t)
+bank_questions a s Tick = []
+
+-- the task that a refusal of the call names, if it names one
+abbrev pub named_by : Setup → Snapshot → Call → Option ℕ
+named_by a s Tick = late_task a s
+named_by a s _ = None
 
 abbrev pub limit_questions : Setup → ℕ → Mode → List Question
-limit_questions a r m = ask 2 (nat_lt r a.resources) ∷ (ask 3 (knows a.told r m) ∷ [])
-
-abbrev pub equal_bool : Bool → Bool → Bool
-equal_bool true b = b
-equal_bool false b = not b
+limit_questions a r m =
+    ask 2 (nat_lt r a.resources)
+    ∷ ask 3 (knows a.told r m)
+    ∷ []
 
 -- the most holders in mode W of a plan's resource, and whether it is a reader-writer resource
 abbrev pub slots_in : Contents → ℕ → ℕ
@@ -86,7 +112,7 @@ reads_in c r = not (nat_lt r (length c.slots))
 abbrev pub fits_at : Contents → Told → Lists → ℕ → Bool
 fits_at c t lists r =
     t.slots r == slots_in c r
-    && (equal_bool (t.reads r) (reads_in c r)
+    && (beq (t.reads r) (reads_in c r)
     && length (lists r) == 0)
 
 abbrev pub all_below : (ℕ → Bool) → ℕ → Bool

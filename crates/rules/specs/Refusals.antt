@@ -21,37 +21,15 @@ number NoFit = 24
 number (Bank why) = bank_number why
 
 abbrev pub task_named : Refusal → Option ℕ
-task_named NoTask = None
-task_named NoResource = None
-task_named NoMode = None
-task_named NoLength = None
-task_named NotIdle = None
-task_named ManyReleases = None
-task_named NotRunning = None
-task_named StillHolding = None
-task_named NotHolding = None
 task_named (Late task) = Some task
-task_named ClockEnds = None
-task_named NoFit = None
-task_named (Bank why) = None
+task_named _ = None
 
 abbrev pub from_bank : Refusal → Bool
-from_bank NoTask = false
-from_bank NoResource = false
-from_bank NoMode = false
-from_bank NoLength = false
-from_bank NotIdle = false
-from_bank ManyReleases = false
-from_bank NotRunning = false
-from_bank StillHolding = false
-from_bank NotHolding = false
-from_bank (Late task) = false
-from_bank ClockEnds = false
-from_bank NoFit = false
 from_bank (Bank why) = true
+from_bank _ = false
 
 -- the first question answered no decides: one of the controller's own, or, where those are all
 -- answered yes, one of the bank's
-pub record Refused (own bank : List Question) (why : Refusal) : Type 0 where
+pub record RefusedBy (own bank : List Question) (why : Refusal) : Type 0 where
   pub decided : first_no (cond (from_bank why) bank own) ≡ Some (number why)
   pub own_first : from_bank why ≡ true → first_no own ≡ None

@@ -1,14 +1,14 @@
 -- Runs: a controller made once and then worked by calls, and the law that every call keeps.
-use Rattle.std.specs.Prelude.{◌≡◌, ℕ, ◌<◌, ◌≤◌, ◌⊎◌, [], ◌∷◌, length}
+use Rattle.std.specs.Prelude.{◌≡◌, ℕ, ◌<◌, ◌≤◌, ◌⊎◌, length}
 use Rattle.bank.specs.Meaning.{Lists, Small, Sound}
 use Rattle.plan.specs.Contents.{resource_count}
-use Rattle.rules.specs.Answers.{Event, made}
 use Rattle.rules.specs.Fits.{BankFits}
-use Rattle.rules.specs.Histories.{Moment, History, after}
+use Rattle.rules.specs.Histories.{History, made, called, after}
 use Rattle.rules.specs.Jobs.{Setup, Snapshot, cluster_of}
 use Rattle.rules.specs.Moves.{Does}
 use Rattle.rules.specs.Promises.{Lawful}
 use Rattle.rules.specs.States.{idle_task}
+use Rattle.rules.specs.declared.event.Event.{Event}
 
 -- over a bank that fits, a controller has the plan's tasks and resources; over another it has none
 pub record Fitting (a : Setup) (lists : Lists) : Type 0 where
@@ -40,14 +40,11 @@ pub record Begins (a : Setup) (s : Snapshot) : Type 0 where
 abbrev pub SoundLists : Setup → Snapshot → Type 0
 SoundLists a s = (r : ℕ) → r < a.told.resources → Sound a.told r (s.lists r)
 
-abbrev pub moment : Event → Snapshot → Moment
-moment e t = record { event = e; lists = t.lists }
-
 -- s stands after the calls of a history
 pub data Runs (a : Setup) : Snapshot → History → Type 0 where
-  starts : {s : Snapshot} → Begins a s → SoundLists a s → Runs a s (moment made s ∷ [])
+  starts : {s : Snapshot} → Begins a s → SoundLists a s → Runs a s (made s.lists)
   goes : {s t : Snapshot} {h : History} {e : Event}
-      → Runs a s h → SoundLists a t → Does a s e t → Runs a t (moment e t ∷ h)
+      → Runs a s h → SoundLists a t → Does a s e t → Runs a t (called h e t.lists)
 
 -- A run that keeps the law: every call of its history is lawful, and s stands exactly as the
 -- history says.
@@ -59,8 +56,8 @@ pub record LawfulRun (a : Setup) (s : Snapshot) (h : History) : Type 0 where
 -- a call added to every history that led to where it was made: the whole is a run that keeps the
 -- law
 abbrev pub Follows : Setup → Snapshot → Event → Snapshot → Type 0
-Follows a s e t = (h : History) → Runs a s h → LawfulRun a t (moment e t ∷ h)
+Follows a s e t = (h : History) → Runs a s h → LawfulRun a t (called h e t.lists)
 
--- the first call of a history, which makes the controller
+-- the start of every history: a controller is made
 abbrev pub Starts : Setup → Snapshot → Type 0
-Starts a t = LawfulRun a t (moment made t ∷ [])
+Starts a t = LawfulRun a t (made t.lists)

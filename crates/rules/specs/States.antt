@@ -10,51 +10,37 @@ use Rattle.rules.specs.declared.task.Wanted.{Wanted}
 
 abbrev pub is_idle : State → Bool
 is_idle Idle = true
-is_idle Going = false
-is_idle (HeldBack w) = false
-is_idle (Waiting w) = false
-is_idle (Holding w) = false
+is_idle _ = false
 
 abbrev pub is_held_back : State → Bool
-is_held_back Idle = false
-is_held_back Going = false
 is_held_back (HeldBack w) = true
-is_held_back (Waiting w) = false
-is_held_back (Holding w) = false
+is_held_back _ = false
 
 -- it waits or is held back
 abbrev pub is_pending : State → Bool
-is_pending Idle = false
-is_pending Going = false
 is_pending (HeldBack w) = true
 is_pending (Waiting w) = true
-is_pending (Holding w) = false
+is_pending _ = false
 
 abbrev pub is_holding : State → Bool
-is_holding Idle = false
-is_holding Going = false
-is_holding (HeldBack w) = false
-is_holding (Waiting w) = false
 is_holding (Holding w) = true
+is_holding _ = false
 
 -- its job could use a processor: it waits for nothing
 abbrev pub is_ready : State → Bool
-is_ready Idle = false
 is_ready Going = true
-is_ready (HeldBack w) = false
-is_ready (Waiting w) = false
 is_ready (Holding w) = true
+is_ready _ = false
 
 abbrev pub nothing : Wanted
 nothing = record { resource = 0; mode = Write }
 
 -- what a task in this state has asked for and not given back
 abbrev pub wanted_of : State → Wanted
-wanted_of Idle = nothing
-wanted_of Going = nothing
 wanted_of (HeldBack w) = w
 wanted_of (Waiting w) = w
 wanted_of (Holding w) = w
+wanted_of _ = nothing
 
 -- the state after a request entered the bank, and after an ask
 abbrev pub issued_state : Bool → Wanted → State
@@ -71,8 +57,8 @@ abbrev pub idle_task : Task
 idle_task = record { state = Idle; release = 0; used = 0; blocked = 0 }
 
 abbrev pub released_task : ℕ → Task
-released_task n = record { state = Going; release = n; used = 0; blocked = 0 }
+released_task n = record idle_task { state = Going; release = n }
 
 -- the same job in another state, with 0 ticks used
 abbrev pub in_state : State → Task → Task
-in_state st k = record { state = st; release = k.release; used = 0; blocked = k.blocked }
+in_state st k = record k { state = st; used = 0 }
