@@ -3,13 +3,14 @@ use Rattle.std.proofs.Common.{◌≡◌, ℕ, ◌<◌, Bool, true, false, cond, 
 use mathlib.Core.Path.{fun_ext}
 use Rattle.std.proofs.lemmas.Bool.{and_parts, false≢true}
 use Rattle.bank.specs.Meaning.{Lists, Enters}
-use Rattle.bank.specs.Questions.{enter_questions, number as bank_number}
+use Rattle.bank.specs.Questions.{number as bank_number}
 use Rattle.bank.specs.declared.refusal.Refusal.{Refusal as BankRefusal}
 use Rattle.text.specs.Questions.{first_no}
-use Rattle.rules.specs.Answers.{finished, Answered, IssuesNext, next_questions}
+use Rattle.rules.specs.Answers.{finished, Answered, Issues, IssuesNext}
 use Rattle.rules.specs.Jobs.{Setup, Snapshot, cluster_of, ended, first, jobs_in, least_below, if_first, next_issued}
-use Rattle.rules.specs.Questions.{finish_questions}
-use Rattle.rules.specs.States.{is_held_back, wanted_of, idle_task}
+use Rattle.rules.specs.Questions.{questions, issue_questions, next_questions, wanted_by}
+use Rattle.rules.specs.States.{is_held_back, idle_task}
+use Rattle.rules.specs.declared.call.Call.TheVariants.{Finish}
 use Rattle.rules.specs.declared.refusal.Refusal.TheVariants.{Bank}
 use Rattle.rules.specs.declared.task.Task.{Task}
 use Rattle.rules.specs.declared.task.Wanted.{Wanted}
@@ -47,19 +48,22 @@ is_next a s t u e = go (least_below test value a.tasks) refl (sym e)
 pub next_same : (a : Setup) (s : Snapshot) (t : ℕ) (tasks : ℕ → Task) (o : Option ℕ) → o ≡ next_of a tasks (cluster_of a t) → ((q : ℕ) → tasks q ≡ cond (eqb t q) idle_task (s.tasks q)) → o ≡ next_issued a s t
 next_same a s t tasks o e h = e ∙ ap (λ (f : ℕ → Task). next_of a f (cluster_of a t)) (fun_ext h)
 
-module _ (a : Setup) (s : Snapshot) (t : ℕ) (own : first_no (finish_questions a s t) ≡ None) where
+module _ (a : Setup) (s : Snapshot) (t : ℕ) (own : first_no (questions a s (Finish t)) ≡ None) where
   pub finish_plain : (blocked : ℕ) → None ≡ next_issued a s t → blocked ≡ (s.tasks t).blocked → Answered a s (finished t (Ok (record { blocked = blocked; issued = None }))) s.lists
-  finish_plain blocked e same = (own, same, subst (λ (o : Option ℕ). IssuesNext a s o None s.lists) e refl)
+  finish_plain blocked e same = record { passed = own; gives = (same, subst (λ (o : Option ℕ). IssuesNext a s o None s.lists) e refl) }
 
-  pub finish_issued : (blocked u : ℕ) (holds : Bool) (w : Wanted) (new : Lists) → Some u ≡ next_issued a s t → blocked ≡ (s.tasks t).blocked → w ≡ wanted_of (s.tasks u).state → Enters a.told w.resource u w.mode (Ok holds) s.lists new → Answered a s (finished t (Ok (record { blocked = blocked; issued = Some (record { task = u; holds = holds }) }))) new
+  pub finish_issued : (blocked u : ℕ) (holds : Bool) (w : Wanted) (new : Lists) → Some u ≡ next_issued a s t → blocked ≡ (s.tasks t).blocked → w ≡ wanted_by s u → Enters a.told w.resource u w.mode (Ok holds) s.lists new → Answered a s (finished t (Ok (record { blocked = blocked; issued = Some (record { task = u; holds = holds }) }))) new
   finish_issued blocked u holds w new e same wanted entered =
-      (own, same, subst (λ (o : Option ℕ). IssuesNext a s o (Some (record { task = u; holds = holds })) new) e (refl, subst (λ (x : Wanted). Enters a.told x.resource u x.mode (Ok holds) s.lists new) wanted entered))
+      record { passed = own; gives = (same, subst (λ (o : Option ℕ). IssuesNext a s o (Some (record { task = u; holds = holds })) new) e (refl, subst (λ (x : Wanted). Issues a s u x holds new) wanted entered)) }
 
-  pub finish_refused : (u : ℕ) (why : BankRefusal) (w : Wanted) (new : Lists) → Some u ≡ next_issued a s t → w ≡ wanted_of (s.tasks u).state → first_no (enter_questions a.told w.resource u w.mode (s.lists w.resource)) ≡ Some (bank_number why) → new ≡ s.lists → Answered a s (finished t (Err (Bank why))) new
-  finish_refused u why w new e wanted refusal same = (
-    record {
-      decided = subst (λ (o : Option ℕ). first_no (next_questions a s o) ≡ Some (bank_number why)) e (subst (λ (x : Wanted). first_no (enter_questions a.told x.resource u x.mode (s.lists x.resource)) ≡ Some (bank_number why)) wanted refusal);
-      own_first = λ f. own;
-    },
-    same,
-  )
+  pub finish_refused : (u : ℕ) (why : BankRefusal) (w : Wanted) (new : Lists) → Some u ≡ next_issued a s t → w ≡ wanted_by s u → first_no (issue_questions a s u w) ≡ Some (bank_number why) → new ≡ s.lists → Answered a s (finished t (Err (Bank why))) new
+  finish_refused u why w new e wanted refusal same =
+      record {
+        by =
+            record {
+              decided = subst (λ (o : Option ℕ). first_no (next_questions a s o) ≡ Some (bank_number why)) e (subst (λ (x : Wanted). first_no (issue_questions a s u x) ≡ Some (bank_number why)) wanted refusal);
+              own_first = λ f. own;
+            };
+        named = refl;
+        same = same;
+      }

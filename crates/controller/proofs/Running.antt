@@ -3,7 +3,7 @@ use Rattle.std.proofs.Common.{◌≡◌, ℕ, ◌<◌, subst}
 use Rattle.bank.specs.Meaning.{Sound}
 use Rattle.bank.specs.declared.meaning.Bank.{Ghosts}
 use Rattle.rules.specs.Jobs.{Setup}
-use Rattle.rules.specs.Answers.{Event}
+use Rattle.rules.specs.declared.event.Event.{Event}
 use Rattle.rules.specs.Moves.{Does}
 use Rattle.rules.specs.Runs.{Follows, SoundLists}
 use Rattle.rules.proofs.Law.{follows}

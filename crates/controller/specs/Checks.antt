@@ -2,7 +2,7 @@
 use Rattle.std.specs.Prelude.{◌≡◌, ℕ, Bool, false, not, List, [], ◌∷◌, Some, None, Ok, Err, Result, nat_lt}
 use Rattle.text.specs.Questions.{Question, ask, first_no}
 use Rattle.rules.specs.Jobs.{Setup, Snapshot, jobs_in, runs}
-use Rattle.rules.specs.Refusals.{number, from_bank}
+use Rattle.rules.specs.Refusals.{number, from_bank, task_named}
 use Rattle.rules.specs.States.{is_idle, is_holding}
 use Rattle.rules.specs.declared.call.Call.{Call}
 use Rattle.rules.specs.declared.call.Call.TheVariants.{Release, Ask, Give, Finish, Tick}
@@ -10,15 +10,21 @@ use Rattle.rules.specs.declared.refusal.Refusal.{Refusal}
 use Rattle.rules.specs.declared.task.State.{State}
 use Rattle.rules.specs.declared.task.State.TheVariants.{Idle, Going, HeldBack}
 
--- the first question answered no decides, and it is one of the controller's own
+-- the first question answered no decides; it is one of the controller's own, and names no task
 abbrev pub Checked : List Question → Result (Unit {0}) Refusal → Type 0
 Checked questions (Ok done) = first_no questions ≡ None
-Checked questions (Err why) = (first_no questions ≡ Some (number why)) × (from_bank why ≡ false)
+Checked questions (Err why) =
+    (first_no questions ≡ Some (number why))
+    × (from_bank why ≡ false)
+    × (task_named why ≡ None)
 
 -- the same, answered with the state into which the task moves
 abbrev pub Moves : List Question → State → Result State Refusal → Type 0
 Moves questions next (Ok state) = (first_no questions ≡ None) × (state ≡ next)
-Moves questions next (Err why) = (first_no questions ≡ Some (number why)) × (from_bank why ≡ false)
+Moves questions next (Err why) =
+    (first_no questions ≡ Some (number why))
+    × (from_bank why ≡ false)
+    × (task_named why ≡ None)
 
 -- the questions on the task's own state
 abbrev pub state_questions : Call → Bool → State → List Question

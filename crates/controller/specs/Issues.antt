@@ -7,7 +7,7 @@ use Rattle.bank.specs.declared.request.Mode.{Mode}
 use Rattle.bank.specs.declared.request.Request.{Request}
 use Rattle.text.specs.Questions.{first_no}
 use Rattle.rules.specs.Moves.{let_in}
-use Rattle.rules.specs.Refusals.{number, from_bank}
+use Rattle.rules.specs.Refusals.{number, from_bank, task_named}
 use Rattle.rules.specs.States.{idle_task}
 use Rattle.rules.specs.declared.answer.Asked.{Asked}
 use Rattle.rules.specs.declared.answer.Asked.TheVariants.{Hold, Wait, Back}
@@ -20,7 +20,11 @@ abbrev pub Asks : Told → Bool → ℕ → ℕ → Mode → Result Asked Refusa
 Asks told first t r m (Ok Hold) old new = (first ≡ true) × Enters told r t m (Ok true) old new
 Asks told first t r m (Ok Wait) old new = (first ≡ true) × Enters told r t m (Ok false) old new
 Asks told first t r m (Ok Back) old new = (first ≡ false) × (new ≡ old)
-Asks told first t r m (Err why) old new = (first_no (cond first (enter_questions told r t m (old r)) []) ≡ Some (number why)) × (from_bank why ≡ true) × (new ≡ old)
+Asks told first t r m (Err why) old new =
+    (first_no (cond first (enter_questions told r t m (old r)) []) ≡ Some (number why))
+    × (from_bank why ≡ true)
+    × (task_named why ≡ None)
+    × (new ≡ old)
 
 -- the records after a departure from r, where xs are now the requests there
 pub record LetsIn (n r : ℕ) (xs : List Request) (old new : List Task) : Type 0 where

@@ -1,13 +1,16 @@
 -- Holders and the ticks that they have left, in a run.
-use Rattle.std.proofs.Common.{◌≡◌, ℕ, ◌+◌, ◌-◌, ◌<◌, ◌≤◌, Bool, true, false, not, ◌&&◌, ◌||◌, is_some, Some, None, Option, unwrap_or, sym, refl, ap, ◌∙◌, subst, ⊎_elim, arith}
+use Rattle.std.proofs.Common.{◌≡◌, ℕ, ◌+◌, ◌-◌, ◌<◌, ◌≤◌, Bool, true, false, not, ◌&&◌, ◌||◌, is_some, Some, None, Ok, Err, Option, Result, unwrap_or, sym, refl, ap, ◌∙◌, subst, ⊎_elim, arith}
 use Rattle.std.proofs.lemmas.Bool.{le-leb, leb-true, false≢true, both_ways, cases_Bool, cases_lt}
 use Rattle.plan.specs.Contents.{length_at}
+use Rattle.rules.specs.Answers.{ticked}
 use Rattle.rules.specs.Histories.{History, lists, job, wanted, issued, waiting, pending, used, state, state_of, entry_of, after}
-use Rattle.rules.specs.Holders.{HasLeft, NamesLate, IsNearestEnd, ticks_left, task_and_left, nearest_end}
+use Rattle.rules.specs.Holders.{HasLeft, NamesLate, TickNames, IsNearestEnd, ticks_left, task_and_left, nearest_end}
 use Rattle.rules.specs.Jobs.{Setup, Snapshot, least_below}
 use Rattle.rules.specs.Moves.{is_queued}
+use Rattle.rules.specs.Promises.{LateNamed}
 use Rattle.rules.specs.Questions.{length_for, late, late_in, late_task}
 use Rattle.rules.specs.States.{is_holding, is_pending, wanted_of}
+use Rattle.rules.specs.declared.refusal.Refusal.{Refusal}
 use Rattle.rules.specs.declared.task.State.{State}
 use Rattle.rules.specs.declared.task.State.TheVariants.{Idle, Going, HeldBack, Waiting, Holding}
 use Rattle.rules.specs.declared.task.Wanted.{Wanted}
@@ -112,6 +115,11 @@ module _ (a : Setup) (h : History) (i : InvOf a h) where
         where
           not_below : (u : ℕ) → late a (after a h) u ≡ true → ((k : ℕ) → k < t → late a (after a h) k ≡ false) → t ≤ u
           not_below u f low = not_less t u (λ lt. both_ways (late a (after a h) u) (low u lt) f)
+
+-- what a tick names, by its answer
+pub tick_names : (a : Setup) (h : History) (x : Result ℕ Refusal) → LateNamed a (ticked x) h → TickNames a (after a h) x
+tick_names a h (Ok n) e = e
+tick_names a h (Err why) e = e
 
 -- a task waits or is held back, by its record and by its words
 pub pending_words : (a : Setup) (n : ℕ) (h : History) (t : ℕ) → TaskKept a n (lists h) t (words_of a h t) → is_pending (state t h) ≡ pending t h

@@ -7,7 +7,7 @@ ghost use Rattle.controller.specs.Issues.{Asks, AskChanges};
 ghost use Rattle.rules.specs.Answers.{asked};
 ghost use Rattle.rules.specs.Moves.{Does};
 ghost use Rattle.rules.specs.Runs.{Follows};
-ghost use Rattle.rules.specs.Questions.{ask_questions};
+ghost use Rattle.rules.specs.Questions.{questions};
 
 use crate::controller::Controller;
 use crate::state::{asked_state, in_state, issued};
@@ -40,7 +40,7 @@ fn issue<B: Bank>(
 impl<B: Bank> Controller<B> {
     // Whether the questions of an ask are answered yes, and then the task is to be held back.
     fn check_ask(&self, task: u32, resource: u32, mode: Mode) -> Result<State, Refusal>
-        ensures { Moves (ask_questions (setup_of B.Bank self.now) (snapshot_of B.Bank self.now) task resource mode)
+        ensures { Moves (questions (setup_of B.Bank self.now) (snapshot_of B.Bank self.now) (Call.Ask task resource mode))
             (HeldBack (record { resource = resource; mode = mode })) result }
     {
         let t = task as usize;
