@@ -2,12 +2,16 @@
 use Rattle.std.specs.Prelude.{ℕ, Bool, true, false, List, [], ◌∷◌, ◌++◌, length}
 use Rattle.std.specs.Prelude.{Some, None, Ok, Err, Option, Result, codes, decimal}
 use Prim.Native.Char.{code}
-use Rattle.rules.specs.Answers.{Event as Call, made, released, asked, gave, finished, ticked}
+use Rattle.rules.specs.Answers.{released, asked, gave, finished, ticked, call_of as called}
 use Rattle.rules.specs.Refusals.{number, task_named}
 use Rattle.rules.specs.declared.answer.Asked.{Asked}
 use Rattle.rules.specs.declared.answer.Asked.TheVariants.{Hold, Wait, Back}
 use Rattle.rules.specs.declared.answer.Finished.{Finished}
 use Rattle.rules.specs.declared.answer.Issued.{Issued}
+use Rattle.rules.specs.declared.call.Call.{Call as Asking}
+use Rattle.rules.specs.declared.event.Acceptance.{Acceptance}
+use Rattle.rules.specs.declared.event.Event.{Event as Call}
+use Rattle.rules.specs.declared.event.Event.TheVariants.{Accepted, Refused}
 use Rattle.rules.specs.declared.refusal.Refusal.{Refusal}
 use Rattle.text.specs.Refusals.{number as number_of}
 use Rattle.text.specs.declared.refusal.Refusal.{Refusal as Unread}
@@ -25,14 +29,17 @@ call_of (answered.Give t x) = gave t x
 call_of (answered.Finish t x) = finished t x
 call_of (answered.Tick x) = ticked x
 
--- the event of a call; the one that makes the controller is none
+-- the event of a call
+abbrev pub event_for : Asking → Event
+event_for (Asking.Release t) = Release t
+event_for (Asking.Ask t r m) = Ask t r m
+event_for (Asking.Give t) = Give t
+event_for (Asking.Finish t) = Finish t
+event_for Asking.Tick = Tick
+
 abbrev pub event_of : Call → Option Event
-event_of made = None
-event_of (released t x) = Some (Release t)
-event_of (asked t r m x) = Some (Ask t r m)
-event_of (gave t x) = Some (Give t)
-event_of (finished t x) = Some (Finish t)
-event_of (ticked x) = Some Tick
+event_of (Accepted x) = Some (event_for (called x))
+event_of (Refused call why) = Some (event_for call)
 
 -- the task that a refusal names, if it names one, and the newline
 abbrev pub named_text : Option ℕ → List ℕ
@@ -78,14 +85,18 @@ answer_text (answered.Tick x) = number_text x
 abbrev pub calls_of : Call → List Call
 calls_of answer = answer ∷ []
 
+-- the answer to an accepted call
+abbrev pub accepted_text : Acceptance → List ℕ
+accepted_text (Acceptance.Release t n) = number_text (Ok n)
+accepted_text (Acceptance.Ask t r m x) = asked_text (Ok x)
+accepted_text (Acceptance.Give t n) = number_text (Ok n)
+accepted_text (Acceptance.Finish t f) = finished_text (Ok f)
+accepted_text (Acceptance.Tick n) = number_text (Ok n)
+
 -- the printed line: the event, a comma and the answer
 abbrev pub line_text : Call → List ℕ
-line_text made = []
-line_text (released t x) = event_then (Release t) (code "," ∷ number_text x)
-line_text (asked t r m x) = event_then (Ask t r m) (code "," ∷ asked_text x)
-line_text (gave t x) = event_then (Give t) (code "," ∷ number_text x)
-line_text (finished t x) = event_then (Finish t) (code "," ∷ finished_text x)
-line_text (ticked x) = event_then Tick (code "," ∷ number_text x)
+line_text (Accepted x) = event_then (event_for (called x)) (code "," ∷ accepted_text x)
+line_text (Refused call why) = event_then (event_for call) (code "," ∷ refused_text why)
 
 -- what is printed of a line that is no event: `?,no,` and the number of its refusal
 abbrev pub unreadable_text : Unread → List ℕ
@@ -93,9 +104,5 @@ unreadable_text why = codes "?,no," ++ (decimal (number_of why) ++ codes "\n")
 
 -- the size of a call's event line
 abbrev pub event_size : Call → ℕ
-event_size made = 0
-event_size (released t x) = length (event_text (Release t))
-event_size (asked t r m x) = length (event_text (Ask t r m))
-event_size (gave t x) = length (event_text (Give t))
-event_size (finished t x) = length (event_text (Finish t))
-event_size (ticked x) = length (event_text Tick)
+event_size (Accepted x) = length (event_text (event_for (called x)))
+event_size (Refused call why) = length (event_text (event_for call))

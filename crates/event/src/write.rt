@@ -138,6 +138,7 @@ fn push_finished(line: &mut ByteVec<64>, answer: Result<Finished, Why>)
 }
 
 // The answer and the newline.
+#[tactic(auto, using(crate::proofs::Answers::in_line))]
 fn push_answer(line: &mut ByteVec<64>, answered: Answered)
     requires { length line.old ≤ 26 }
     ensures text { line.new ≡ line.old ++ answer_text answered }
@@ -159,6 +160,7 @@ fn push_answer(line: &mut ByteVec<64>, answered: Answered)
 }
 
 // The line of an event with its answer.
+#[tactic(auto, using(crate::proofs::Answers::in_line))]
 fn line(answered: Answered) -> ByteVec<64>
     ensures text { result ≡ line_text (call_of answered) }
     ensures few { length (line_text (call_of answered)) ≤ 10 * event_size (call_of answered) }
@@ -179,6 +181,7 @@ fn write_line(answered: Answered, out: &mut [u8], at: usize) -> Result<usize, Re
 
 impl Answered {
     // The event that was answered.
+    #[tactic(auto, using(crate::proofs::Answers::in_line))]
     fn event(self) -> Event
         ensures { event_of (call_of self) ≡ Some result }
     {
