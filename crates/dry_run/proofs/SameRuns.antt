@@ -12,7 +12,7 @@ use Rattle.event.specs.declared.event.Event.{Event}
 use Rattle.bank.specs.Questions.{Told}
 use Rattle.plan.specs.Contents.{Contents, resource_count}
 use Rattle.plan_text.specs.Texts.{Verdict}
-use Rattle.rules.specs.Answers.{Event as Call}
+use Rattle.rules.specs.declared.event.Event.{Event as Call}
 use Rattle.rules.specs.Histories.{History}
 use Rattle.rules.specs.Jobs.{Setup, Snapshot}
 use Rattle.rules.specs.Moves.{Does, moved_task, one_more_if}

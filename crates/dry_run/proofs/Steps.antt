@@ -11,9 +11,9 @@ use Rattle.event.specs.Lines.{read_event, event_questions, ReadsEvent}
 use Rattle.event.specs.declared.event.Event.{Event}
 use Rattle.plan.specs.Contents.{Contents}
 use Rattle.plan_text.specs.Texts.{Verdict, read_text}
-use Rattle.rules.specs.Answers.{Event as Call, made}
-use Rattle.rules.specs.Histories.{History}
-use Rattle.rules.specs.Runs.{LawfulRun, Follows, moment}
+use Rattle.rules.specs.Histories.{History, made, called}
+use Rattle.rules.specs.Runs.{LawfulRun, Follows}
+use Rattle.rules.specs.declared.event.Event.{Event as Call}
 use Rattle.text.specs.Lines.{lines_of}
 use Rattle.text.specs.Memory.{overlay}
 use Rattle.text.specs.Questions.{ask, first_no}
@@ -93,7 +93,7 @@ module _ (text i o : List ℕ) (planning : Planning text true i o) where
     plays = record {
       begins = controller;
       controller = m;
-      history = moment made (snapshot controller) ∷ [];
+      history = made (snapshot controller).lists;
       run = m.starts;
       answers = [];
       replays = none;
@@ -114,8 +114,8 @@ reads_same a b e (Err why) w = sym (refuses_same a b e) ∙ w
 -- one call
 pub one_call : (k next : Controller Banks meaning) (call : Call) → Follows (setup k) (snapshot k) call (snapshot next) → Step k call next → RunsOn k (call ∷ []) next
 one_call k next call follows step = λ h run. (
-  moment call (snapshot next) ∷ h,
-  subst (λ x. LawfulRun x (snapshot next) (moment call (snapshot next) ∷ h)) (sym step.same) (follows h run.runs),
+  called h call (snapshot next).lists,
+  subst (λ x. LawfulRun x (snapshot next) (called h call (snapshot next).lists)) (sym step.same) (follows h run.runs),
   (next, step, (refl, refl)),
 )
 

@@ -10,9 +10,9 @@ use Rattle.pair.specs.Pairs.{pair_told, pair_active}
 use Rattle.plan.specs.Contents.{Contents}
 use Rattle.readers_writers.specs.Banks.{told_of as writers_told_of, active_of as writers_active_of}
 use Rattle.readers_writers.specs.Exactly.{EntersExactly, LeavesExactly}
-use Rattle.rules.specs.Answers.{Event as Call}
 use Rattle.rules.specs.Jobs.{Setup, Snapshot}
 use Rattle.rules.specs.Moves.{Does}
+use Rattle.rules.specs.declared.event.Event.{Event as Call}
 use Rattle.rules.specs.Runs.{Begins, Fitting, Starts}
 use Rattle.slots.specs.Of.{told_of as slots_told_of, active_of as slots_active_of, EntersLast, LeavesPlace}
 

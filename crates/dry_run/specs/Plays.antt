@@ -6,9 +6,9 @@ use Rattle.event.specs.Lines.{read_event, event_questions}
 use Rattle.event.specs.declared.event.Event.{Event}
 use Rattle.plan.specs.Contents.{Contents}
 use Rattle.plan_text.specs.Texts.{Verdict}
-use Rattle.rules.specs.Answers.{Event as Call, made}
-use Rattle.rules.specs.Histories.{History}
-use Rattle.rules.specs.Runs.{LawfulRun, moment}
+use Rattle.rules.specs.Histories.{History, made, called}
+use Rattle.rules.specs.Runs.{LawfulRun}
+use Rattle.rules.specs.declared.event.Event.{Event as Call}
 use Rattle.text.specs.Lines.{lines_of}
 use Rattle.text.specs.Questions.{first_no}
 use Rattle.text.specs.Refusals.{number}
@@ -24,14 +24,14 @@ StepsBy [] k h last g = (last ≡ k) × (g ≡ h)
 StepsBy (call ∷ calls) k h last g =
     (next : Controller Banks meaning)
     × Step k call next
-    × StepsBy calls next (moment call (snapshot next) ∷ h) last g
+    × StepsBy calls next (called h call (snapshot next).lists) last g
 
 -- the lines so far, the history of their calls, where the controller stands, and what was printed
 -- of them. A line that is an event stands for a row of calls, and it is printed with its answer; a
 -- line that is none is printed with the number of the question that is answered no, and is no call
 pub data Replays (first : Controller Banks meaning) :
     List (List ℕ) → History → Controller Banks meaning → List ℕ → Type 0 where
-  none : Replays first [] (moment made (snapshot first) ∷ []) first []
+  none : Replays first [] (made (snapshot first).lists) first []
   unreadable : {lines : List (List ℕ)} {h : History} {k : Controller Banks meaning} {out : List ℕ}
       (line : List ℕ) (why : Refusal)
       → Replays first lines h k out

@@ -4,9 +4,9 @@ use Rattle.controller.specs.declared.controller.Controller.{Controller}
 use Rattle.event.specs.Answers.{calls_of, event_of, line_text, unreadable_text}
 use Rattle.event.specs.Lines.{event_text}
 use Rattle.event.specs.declared.event.Event.{Event}
-use Rattle.rules.specs.Answers.{Event as Call}
 use Rattle.rules.specs.Histories.{History}
 use Rattle.rules.specs.Runs.{LawfulRun}
+use Rattle.rules.specs.declared.event.Event.{Event as Call}
 use Rattle.text.specs.declared.refusal.Refusal.{Refusal}
 use Rattle.dry_run.specs.Fed.{Laid}
 use Rattle.dry_run.specs.Banks.{Banks}
