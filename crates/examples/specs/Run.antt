@@ -6,13 +6,14 @@ use Rattle.bank.specs.declared.request.Mode.TheVariants.{Write}
 use Rattle.bank.specs.declared.request.Request.{Request}
 use Rattle.bank.specs.Limits.{ticks_of_turns}
 use Rattle.plan.specs.Contents.{Contents, longest_at}
-use Rattle.rules.specs.Answers.{Event, made, released, asked, gave, finished, ticked}
-use Rattle.rules.specs.Histories.{Moment, History, job, wanted, issued, holding, waiting, state}
+use Rattle.rules.specs.Answers.{released, asked, gave, finished, ticked, Answered}
+use Rattle.rules.specs.Histories.{History, made, called, lists, job, wanted, issued, holding, waiting, state}
 use Rattle.rules.specs.Histories.{jobs_after, used, waited, job_waited, blocked_ticks_of, after}
 use Rattle.rules.specs.Jobs.{Setup, runs, first, blocked, next_issued}
-use Rattle.rules.specs.Promises.{AnsweredAfter}
-use Rattle.rules.specs.Questions.{late_task, ask_questions}
+use Rattle.rules.specs.Questions.{late_task, questions}
 use Rattle.rules.specs.declared.answer.Asked.TheVariants.{Hold, Wait, Back}
+use Rattle.rules.specs.declared.call.Call.{Call as Asking}
+use Rattle.rules.specs.declared.event.Event.{Event}
 use Rattle.rules.specs.declared.refusal.Refusal.TheVariants.{NotRunning, StillHolding, Late}
 use Rattle.rules.specs.declared.task.State.{State}
 use Rattle.rules.specs.declared.task.State.TheVariants.{Idle, Going, HeldBack, Waiting, Holding}
@@ -181,15 +182,12 @@ run =
     ∷ call (ended 2 1) none idle idle idle
     ∷ []
 
-abbrev pub moment : Event → List Request → Moment
-moment e xs = record { event = e; lists = λ _. xs }
-
 -- a history, and it after further calls
 abbrev pub start : History
-start = moment made none ∷ []
+start = made (λ _. none)
 
 abbrev pub then : History → Call → History
-then h c = moment c.event c.list ∷ h
+then h c = called h c.event (λ _. c.list)
 
 abbrev pub history_from : History → List Call → History
 history_from h [] = h
@@ -203,7 +201,7 @@ history n = history_from start (take n run)
 abbrev pub Said : History → List Call → Type 0
 Said h [] = ⊤
 Said h (c ∷ cs) =
-    AnsweredAfter setup c.event h (λ _. c.list)
+    Answered setup (after setup h) c.event (λ _. c.list)
     × (words 0 (then h c) ≡ c.zero)
     × (words 1 (then h c) ≡ c.one)
     × (words 2 (then h c) ≡ c.two)
@@ -224,7 +222,7 @@ abbrev pub CallsHold : Type 0
 CallsHold =
     (late_task setup (after setup (history 9)) ≡ Some 0)
     × (next_issued setup (after setup (history 11)) 0 ≡ Some 2)
-    × (first_no (ask_questions setup (after setup (history 13)) 1 0 Write) ≡ Some 8)
+    × (first_no (questions setup (after setup (history 13)) (Asking.Ask 1 0 Write)) ≡ Some 8)
 
 -- the requests of the run, as they are issued and given back
 abbrev pub valve_steps : List Step
@@ -237,10 +235,10 @@ valve_steps =
     ∷ leaves 2 none
     ∷ []
 
--- the controller is made, the run goes as told, and the wait limit is two ticks
+-- nobody is active at the start, the run goes as told, and the wait limit is two ticks
 abbrev pub RunHolds : Type 0
 RunHolds =
-    AnsweredAfter setup made [] (λ _. none)
+    (lists start 0 ≡ [])
     × Said start run
     × JobsHold
     × CallsHold
