@@ -1,5 +1,5 @@
 -- What a call does to the bank.
-use Rattle.std.specs.Prelude.{◌≡◌, ℕ, Bool, true, false, cond, List, [], Some, Ok, Err, Result, slice_index_or}
+use Rattle.std.specs.Prelude.{◌≡◌, ℕ, Bool, true, false, cond, List, [], Some, None, Ok, Err, Result, slice_index_or}
 use Rattle.bank.specs.Meaning.{Lists, Enters}
 use Rattle.bank.specs.Questions.{Told, enter_questions}
 use Rattle.bank.specs.declared.refusal.Refusal.{Refusal as BankRefusal}

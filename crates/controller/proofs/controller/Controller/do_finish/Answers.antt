@@ -11,13 +11,32 @@ use Rattle.table.specs.Rows.{keeps_length, tasks_in}
 use Rattle.table.proofs.Rows.{set_row}
 use Rattle.controller.specs.Of.{setup_of, snapshot_of}
 use Rattle.controller.proofs.Checking.{yes_parts}
-use Rattle.controller.proofs.Finishing.{is_next, finish_issued}
+use Rattle.controller.proofs.Finishing.{is_next, finish_issued, finish_refused}
 use Rattle.controller.proofs.Same.{same_controllers}
 use Rattle.controller.proofs.Tasks.{each_set, task_here, tasks_written, tasks_moved, lengths_one, length_wanted, lengths_issued}
 use Rattle.controller.proofs.controller.Controller.do_finish.Goals as goal
 
 pub returns-in_err-holds-clause-keeps : goal.returns-in_err-holds-clause-keeps
 returns-in_err-holds-clause-keeps g c = rw ((err_from_is_err_and c.from_residual-in_err-holds.result c.from_residual-in_err-holds.ensures.1).1) (same_controllers _ c.args.self.now refl refl refl refl refl refl c.in_err-holds.ensures.keeps)
+
+pub returns-in_err-holds-clause-does : goal.returns-in_err-holds-clause-does
+returns-in_err-holds-clause-does g c =
+    let self = c.args.self.now in
+    let b = g.B.Bank in
+    let a = setup_of b self in
+    let s = snapshot_of b self in
+    let t = c.args.task in
+    let u = c.in-Some.next in
+    let e = c.in_err-holds.ensures in
+    let next = is_next a s t u c.in-Some.ensures in
+    let wanted : c.wanted_of-wanted.result ≡ wanted_of (s.tasks u).state = c.wanted_of-wanted.ensures ∙ ap (λ (k : Task). wanted_of k.state) (c.get-job.ensures ∙ sym (task_here self.tasks self.table.records.rows u next.known)) in
+    let p = err_from_is_err_and c.from_residual-in_err-holds.result c.from_residual-in_err-holds.ensures.1 in
+    rw (p.1, p.2) (record {
+      answered = finish_refused a s t c.in_ok-state.ensures.0 u c.in_err-holds.field-0.0 c.wanted_of-wanted.result _ c.in-Some.ensures wanted e.enters (ap b.active e.keeps);
+      tasks = λ q. refl;
+      clock = refl;
+      releases = refl;
+    })
 
 -- the record of a job that ended
 ended_is : (rows new : List Task) (t : ℕ) (st : State) (e : State) → new ≡ set rows t (record { state = st; release = 0; used = 0; blocked = 0 }) → st ≡ e → new ≡ set rows t (record { state = e; release = 0; used = 0; blocked = 0 })
