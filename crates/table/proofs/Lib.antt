@@ -1,5 +1,6 @@
+pub mod Clusters
 pub mod Firsts
 pub mod Nearest
-pub mod Orders
 pub mod Ranks
 pub mod Rows
+pub mod Selected

@@ -1,4 +1,4 @@
--- The jobs of a table as rows, each at the place of its task.
+-- The jobs and holders of a table.
 use Rattle.std.specs.Prelude.{◌≡◌, ℕ, ◌-◌, Bool, true, false, cond, not, ◌&&◌, List, Some, None, Option, ◌==◌, nat_le, nat_lt, slice_index, slice_index_or}
 use Rattle.std.specs.Option.{unwrap_or}
 use Rattle.bank.specs.Meaning.{Lists}
@@ -27,9 +27,11 @@ selects Unfinished st = not (is_idle st)
 selects Ready st = is_ready st
 selects HeldBack st = is_held_back st
 
--- the job of a task, if it is selected and of the cluster
-abbrev pub job_at : Contents → ℕ → List Task → Selection → ℕ → ℕ → Option Job
-job_at p n rows which g q = cond (selects which (tasks_in n rows q).state && slice_index p.tasks q == g) (Some (record { release = (tasks_in n rows q).release })) None
+-- the job of a task, if it is selected
+abbrev pub job_at : ℕ → List Task → Selection → ℕ → Option Job
+job_at n rows which q =
+    cond (selects which (tasks_in n rows q).state)
+    (Some (record { release = (tasks_in n rows q).release; task = q })) None
 
 -- the job of a task is selected, of the cluster, and released before another
 abbrev pub comes_before : Contents → ℕ → List Task → Selection → ℕ → ℕ → ℕ → Bool

@@ -1,5 +1,5 @@
-ghost use Rattle.std.specs.Prelude.{◌≡◌, ℕ, ◌<◌, None, slice_index_or};
-ghost use Rattle.std.specs.Option.{option_map};
+ghost use Rattle.std.specs.Prelude.{◌≡◌, ℕ, ◌<◌};
+ghost use Rattle.std.specs.List.{filter_map, range_with_len};
 ghost use Rattle.plan.specs.Of.{plan_contents};
 ghost use Rattle.bank.specs.Meaning.{Lists};
 ghost use Rattle.bank.specs.Questions.{Told};
@@ -7,7 +7,8 @@ ghost use Rattle.rules.specs.Holders.{IsNearestEnd};
 ghost use Rattle.table.specs.Rows.{holder_at, nearest_of, setup_with, snapshot_with};
 
 use crate::table::Table;
-use order::elements::{AbsentLast, Holder};
+use arrayvec::ArrayVec;
+use order::elements::Holder;
 use order::row::first_of;
 use rules::task::State;
 
@@ -28,32 +29,28 @@ impl Table<'_> {
         })
     }
 
-    // The holders, each at the place of its task.
-    fn holder_row(&self) -> [AbsentLast<Holder>; 64]
-        ensures { (q : ℕ) → q < 64 → (slice_index_or result q (record { 0 = None })).0 ≡ holder_at (plan_contents self.now.plan.now) self.now.tasks self.now.rows.now q }
+    // The holders.
+    fn holder_row(&self) -> ArrayVec<Holder, 64>
+        ensures { result.items ≡ filter_map (holder_at (plan_contents self.now.plan.now) self.now.tasks self.now.rows.now) (range_with_len 0 self.now.tasks) }
     {
-        let mut row = [AbsentLast(None); 64];
-        // apart from the rows of jobs: one function for both would take a closure, and say at each call what it gives
-        for (task, place) in row.iter_mut().enumerate() {
-            *place = AbsentLast(self.holder_at(task));
+        let mut row = ArrayVec::new();
+        for task in 0..self.tasks {
+            if let Some(holder) = self.holder_at(task) {
+                row.push(holder);
+            }
         }
         row
     }
 
-    // The holder that has the fewest ticks left, of equal ones the lowest.
-    fn nearest(&self) -> Option<Holder>
-        ensures { option_map (λ h. (h.task, h.left)) result ≡ nearest_of (plan_contents self.now.plan.now) self.now.tasks self.now.rows.now }
-    {
-        let row = self.holder_row();
-        row[first_of(&row)?].0
-    }
-
-    // Its task and its ticks left.
-    fn task_and_left(&self) -> Option<(u32, u32)>
+    // The holder that has the fewest ticks left, of equal ones the lowest: its task and its ticks
+    // left.
+    fn nearest(&self) -> Option<(u32, u32)>
         ensures { result ≡ nearest_of (plan_contents self.now.plan.now) self.now.tasks
             self.now.rows.now }
     {
-        let holder = self.nearest()?;
+        let row = self.holder_row();
+        let holders = row.as_slice();
+        let holder = holders[first_of(holders)?];
         Some((holder.task, holder.left))
     }
 
@@ -66,6 +63,6 @@ impl Table<'_> {
             (setup_with (plan_contents self.now.plan.now) told self.now.tasks k)
             (snapshot_with self.now.tasks self.now.rows.now ls clock releases) result }
     {
-        self.task_and_left()
+        self.nearest()
     }
 }

@@ -1,46 +1,52 @@
-ghost use Rattle.std.specs.Prelude.{◌≡◌, ℕ, ◌<◌, None, slice_index_or};
+ghost use Rattle.std.specs.Prelude.{◌≡◌, ℕ, ◌<◌};
+ghost use Rattle.std.specs.List.{filter_map};
 ghost use Rattle.bank.specs.Questions.{Told};
 ghost use Rattle.plan.specs.Of.{plan_contents};
 ghost use Rattle.rules.specs.Jobs.{count_below, runs, first};
+ghost use Rattle.table.specs.Members.{members_of};
 ghost use Rattle.table.specs.Rows.{job_at, comes_before, ranks_among, setup_with, jobs_of};
 
 use crate::selection::Selection;
 use crate::table::Table;
-use order::elements::{AbsentLast, Job};
+use arrayvec::ArrayVec;
+use order::elements::Job;
 use order::row::count_before;
 use rules::task::Task;
 
 impl Table<'_> {
-    // The job of a task, if it is selected and of the cluster.
-    fn job_at(&self, which: Selection, cluster: u8, task: usize) -> Option<Job>
-        requires { task < self.now.tasks }
-        ensures { result ≡ job_at (plan_contents self.now.plan.now) self.now.tasks self.now.rows.now which cluster task }
+    // The job of a task, if it is selected.
+    fn job_at(&self, which: Selection, task: u8) -> Option<Job>
+        ensures { result ≡ job_at self.now.tasks self.now.rows.now which task }
     {
-        let Task { state, release, .. } = self.task(task);
-        (which.has(state) && self.cluster_of(task) == cluster).then_some(Job { release })
+        let Task { state, release, .. } = self.task(task as usize);
+        which.has(state).then_some(Job {
+            release,
+            task: task as u32,
+        })
     }
 
-    // The selected jobs of a cluster, each at the place of its task.
-    pub(crate) fn job_row(&self, which: Selection, cluster: u8) -> [AbsentLast<Job>; 64]
-        ensures { (q : ℕ) → q < 64 → (slice_index_or result q (record { 0 = None })).0 ≡ job_at (plan_contents self.now.plan.now) self.now.tasks self.now.rows.now which cluster q }
+    // The selected jobs of a cluster.
+    pub(crate) fn job_row(&self, which: Selection, cluster: u8) -> ArrayVec<Job, 64>
+        ensures { result.items ≡ filter_map (job_at self.now.tasks self.now.rows.now which)
+            (members_of (plan_contents self.now.plan.now) cluster) }
     {
-        let mut row = [AbsentLast(None); 64];
-        // by the number of a task, which is its place; written only where a job is, since all
-        // places are empty at first
-        for task in 0..self.tasks {
-            let Some(job) = self.job_at(which, cluster, task) else {
-                continue;
-            };
-            row[task] = AbsentLast(Some(job));
+        let mut row = ArrayVec::new();
+        let part = self.members_of(cluster);
+        for task in part {
+            if let Some(job) = self.job_at(which, *task) {
+                row.push(job);
+            }
         }
         row
     }
 
-    // How many selected jobs of the cluster have smaller release numbers.
-    fn jobs_before(&self, which: Selection, cluster: u8, job: Job) -> usize
-        ensures { result ≡ count_below (comes_before (plan_contents self.now.plan.now) self.now.tasks self.now.rows.now which cluster job.release) self.now.tasks }
+    // How many selected jobs of the cluster have smaller release numbers. Compared with task 0, so
+    // that no job of the same number comes before.
+    fn jobs_before(&self, which: Selection, cluster: u8, release: u32) -> usize
+        ensures { result ≡ count_below (comes_before (plan_contents self.now.plan.now) self.now.tasks self.now.rows.now which cluster release) self.now.tasks }
     {
-        count_before(&self.job_row(which, cluster), &AbsentLast(Some(job)))
+        let row = self.job_row(which, cluster);
+        count_before(row.as_slice(), &Job { release, task: 0 })
     }
 
     // Whether the job of a task is selected, and fewer such come before it than its cluster has processors.
@@ -49,7 +55,7 @@ impl Table<'_> {
     {
         let Task { state, release, .. } = self.task(task);
         which.has(state)
-            && self.jobs_before(which, self.cluster_of(task), Job { release })
+            && self.jobs_before(which, self.cluster_of(task), release)
                 < self.processors_for(task) as usize
     }
 

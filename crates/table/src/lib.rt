@@ -5,6 +5,8 @@
 pub mod holders;
 /// Which jobs run, and which are among the first.
 pub mod jobs;
+/// Which tasks are in each cluster.
+pub mod members;
 /// The job whose request is issued next.
 pub mod next;
 /// 64 records, of which one is lent at a time.

@@ -15,9 +15,9 @@ impl Table<'_> {
             self.now.rows.now cluster }
     {
         let row = self.job_row(Selection::HeldBack, cluster);
-        let next = first_of(&row)?;
-        row[next].0?;
-        Some(next)
+        let held_back = row.as_slice();
+        let place = first_of(held_back)?;
+        Some(held_back[place].task as usize)
     }
 
     // The task, if its job is among the first.

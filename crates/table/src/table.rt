@@ -1,7 +1,9 @@
 ghost use Rattle.std.specs.Prelude.{◌≡◌, ◌<◌, ◌≤◌, length, slice_index};
 ghost use Rattle.plan.specs.Of.{plan_contents};
+ghost use Rattle.table.specs.Members.{KeepsMembers, members_of};
 ghost use Rattle.table.specs.Rows.{KeepsLengths, tasks_in};
 
+use crate::members::Members;
 use plan::plan::Plan;
 use rules::task::Task;
 
@@ -11,12 +13,15 @@ use rules::task::Task;
 pub struct Table<'a> {
     /// The plan.
     pub plan: &'a Plan,
+    /// The tasks of each cluster of the plan.
+    pub members: &'a Members,
     /// How many tasks there are.
     pub tasks: usize,
     /// Their records, each at the place of its task.
     pub rows: &'a [Task; 64],
     ghost all_records: { length rows.now ≡ 64 },
     ghost known_tasks: { tasks ≤ length (plan_contents plan.now).tasks },
+    ghost keeps_members: { KeepsMembers (plan_contents plan.now) members.now },
     ghost keeps_lengths: { KeepsLengths (plan_contents plan.now) (tasks_in tasks rows.now) },
 }
 
@@ -39,6 +44,14 @@ impl Table<'_> {
     {
         let cluster = self.cluster_of(task);
         self.plan.processors(cluster as usize).unwrap()
+    }
+
+    // The tasks of a cluster.
+    pub(crate) fn members_of(&self, cluster: u8) -> &[u8]
+        ensures tasks { result.now ≡ members_of (plan_contents self.now.plan.now) cluster }
+        ensures few { length result.now ≤ 64 }
+    {
+        self.members.of_cluster(cluster)
     }
 
     // The record of a task.

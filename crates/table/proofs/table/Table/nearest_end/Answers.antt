@@ -9,4 +9,4 @@ pub returns-clause-nearest : goal.returns-clause-nearest
 returns-clause-nearest c told k ls clock releases =
     let now = c.args.self.now in
     let p = plan_contents now.plan.now in
-    subst (IsNearestEnd (setup_with p told now.tasks k) (snapshot_with now.tasks now.rows.now ls clock releases)) (sym c.task_and_left.ensures) (nearest_kept p now.tasks now.rows.now now.keeps_lengths told k ls clock releases)
+    subst (IsNearestEnd (setup_with p told now.tasks k) (snapshot_with now.tasks now.rows.now ls clock releases)) (sym c.nearest.ensures) (nearest_kept p now.tasks now.rows.now now.keeps_lengths told k ls clock releases)
