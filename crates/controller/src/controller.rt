@@ -2,10 +2,12 @@ ghost use Rattle.std.specs.Prelude.{◌≡◌, ℕ, ◌≤◌, length, slice_ind
 ghost use Rattle.plan.specs.Contents.{resource_count};
 ghost use Rattle.plan.specs.Of.{plan_contents};
 ghost use Rattle.rules.specs.States.{idle_task};
+ghost use Rattle.table.specs.Members.{KeepsMembers};
 ghost use Rattle.table.specs.Rows.{KeepsLengths, tasks_in};
 
 use bank::meaning::Bank;
 use plan::plan::Plan;
+use table::members::Members;
 use table::table::Table;
 use table::tasks::Tasks;
 
@@ -14,6 +16,7 @@ use table::tasks::Tasks;
 #[derive(Debug, PartialEq, Eq, Drop)]
 pub struct Controller<B: Bank> {
     plan: Plan,
+    members: Members,
     tasks: usize,
     resources: u32,
     table: Tasks,
@@ -22,6 +25,7 @@ pub struct Controller<B: Bank> {
     bank: B,
     ghost known_tasks: { tasks ≤ length (plan_contents plan).tasks },
     ghost few_tasks: { tasks ≤ 64 },
+    ghost keeps_members: { KeepsMembers (plan_contents plan) members },
     ghost few_resources: { resources ≤ resource_count (plan_contents plan) },
     ghost clock_ends: { clock ≤ 100000000 },
     ghost releases_end: { releases ≤ 100000000 },
@@ -33,11 +37,13 @@ impl<B: Bank> Controller<B> {
     // The plan with the records of its tasks.
     fn jobs(&self) -> Table<'_>
         ensures plan { result.plan.now ≡ self.now.plan }
+        ensures members { result.members.now ≡ self.now.members }
         ensures tasks { result.tasks ≡ self.now.tasks }
         ensures rows { result.rows.now ≡ self.now.table.records.rows }
     {
         Table {
             plan: &self.plan,
+            members: &self.members,
             tasks: self.tasks,
             rows: self.table.rows(),
         }

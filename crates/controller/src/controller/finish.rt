@@ -40,6 +40,7 @@ impl<B: Bank> Controller<B> {
         rows[t] = Task::IDLE;
         let ended = Table {
             plan: &self.plan,
+            members: &self.members,
             tasks: self.tasks,
             rows: &rows,
         };

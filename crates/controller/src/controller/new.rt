@@ -14,6 +14,7 @@ use bank::meaning::Bank;
 use plan::plan::Plan;
 use plan::resource::Resource;
 use rules::refusal::Refusal;
+use table::members::Members;
 use table::tasks::Tasks;
 
 // Whether a resource of the plan and the bank has the plan's k and modes, and nobody active.
@@ -79,6 +80,7 @@ impl<B: Bank> Controller<B> {
     {
         Controller {
             plan: *plan,
+            members: Members::new(plan),
             tasks,
             resources,
             table: Tasks::idle(),

@@ -39,7 +39,7 @@ returns-in_err-answer g c =
             releases = refl;
           };
       bank = e.keeps;
-      keeps = same_controllers _ self refl refl refl refl refl refl e.keeps;
+      keeps = same_controllers _ self refl refl refl refl refl refl refl e.keeps;
     })
 
 pub invariant_of-self-2-clause-blocked_ticks : goal.invariant_of-self-2-clause-blocked_ticks

@@ -17,7 +17,7 @@ use Rattle.controller.proofs.Tasks.{each_set, task_here, tasks_written, tasks_mo
 use Rattle.controller.proofs.controller.Controller.do_finish.Goals as goal
 
 pub returns-in_err-holds-clause-keeps : goal.returns-in_err-holds-clause-keeps
-returns-in_err-holds-clause-keeps g c = rw ((err_from_is_err_and c.from_residual-in_err-holds.result c.from_residual-in_err-holds.ensures.1).1) (same_controllers _ c.args.self.now refl refl refl refl refl refl c.in_err-holds.ensures.keeps)
+returns-in_err-holds-clause-keeps g c = rw ((err_from_is_err_and c.from_residual-in_err-holds.result c.from_residual-in_err-holds.ensures.1).1) (same_controllers _ c.args.self.now refl refl refl refl refl refl refl c.in_err-holds.ensures.keeps)
 
 pub returns-in_err-holds-clause-does : goal.returns-in_err-holds-clause-does
 returns-in_err-holds-clause-does g c =

@@ -20,6 +20,7 @@ invariant_of-result g c =
     let pre = c.requires in record {
       known_tasks = pre.0;
       few_tasks = omega (arith, pre.0);
+      keeps_members = c.new.ensures;
       few_resources = pre.1;
       clock_ends = omega arith;
       releases_end = omega arith;
