@@ -6,8 +6,8 @@ use Rattle.std.proofs.lemmas.List.{take_all, take_at, take-append-le, length-tak
 use Rattle.std.proofs.lemmas.Bool.{true≢false, cond-true, cond-false, cases_lt}
 use Rattle.bank.specs.declared.request.Mode.TheVariants.{Write, Read}
 use Rattle.event.specs.Lines.{read_event, event_text, IsLineOf}
-use Rattle.event.specs.declared.event.Event.{Event}
-use Rattle.event.specs.declared.event.Event.TheVariants.{Release, Ask, Give, Finish, Tick}
+use Rattle.rules.specs.declared.call.Call.{Call as Event}
+use Rattle.rules.specs.declared.call.Call.TheVariants.{Release, Ask, Give, Finish, Tick}
 use Rattle.event.proofs.Lines.{is_line_of, long_none}
 use Rattle.text.specs.Lines.{join_first, lines_of}
 use Rattle.dry_run.specs.Fed.{line_begins}

@@ -5,9 +5,8 @@ use Rattle.std.proofs.lemmas.Option.{none-some, same_Some}
 use Rattle.bank.specs.Meaning.{Lists}
 use Rattle.bank.specs.declared.request.Mode.{Mode}
 use Rattle.controller.specs.Banks.{BankChanges, IssuedChanges}
-use Rattle.event.specs.Answers.{event_for, event_of, line_text, refused_text}
+use Rattle.event.specs.Answers.{event_of, line_text, refused_text}
 use Rattle.event.specs.Lines.{event_then}
-use Rattle.event.specs.declared.event.Event.{Event as Form}
 use Rattle.rules.specs.Answers.{call_of, Gives, IssuesNext, Answered}
 use Rattle.rules.specs.Jobs.{Setup, Snapshot, next_issued}
 use Rattle.rules.specs.Moves.{moved_task, is_release, is_tick}
@@ -119,22 +118,13 @@ pub record SameCall (s : Snapshot) (x y : Event) : Type 0 where
   pub tick : is_tick x ≡ is_tick y
   pub release : is_release x ≡ is_release y
 
--- one call for each form of a line
-one_call : (c d : Call) → event_for c ≡ event_for d → c ≡ d
-one_call (Call.Release t) (Call.Release i) e = cc
-one_call (Call.Ask t r m) (Call.Ask i j k) e = cc
-one_call (Call.Give t) (Call.Give i) e = cc
-one_call (Call.Finish t) (Call.Finish i) e = cc
-one_call Call.Tick Call.Tick e = refl
-one_call _ _ e = let z : ◌≡◌ {A = ℕ} 0 1 = cc in absurd (omega arith)
-
 module _ (a : Setup) (s : Snapshot) (b d u v : Banks) (same : SameBanks b d) (ls ms : Lists) where
   abbrev pub Both : Event → Event → Type 0
   Both x y = Answered a s x ls → Answered a s y ms → BankChanges meaning s x b u → BankChanges meaning s y d v → SameCall s x y × SameBanks u v
 
-  pub call_same : (e : Form) (x y : Event) → event_of x ≡ Some e → event_of y ≡ Some e → Both x y
+  pub call_same : (e : Call) (x y : Event) → event_of x ≡ Some e → event_of y ≡ Some e → Both x y
   call_same e (Accepted x) (Accepted y) f g p q c k =
-      let one = accepted_same a s b d u v same ls ms x y (one_call _ _ (same_Some _ _ (f ∙ sym g))) p.gives q.gives c k in
+      let one = accepted_same a s b d u v same ls ms x y (same_Some _ _ (f ∙ sym g)) p.gives q.gives c k in
       let same : x ≡ y = one.0 in (
         record {
           text = ap (λ z. line_text (Accepted z)) same;
@@ -144,13 +134,13 @@ module _ (a : Setup) (s : Snapshot) (b d u v : Banks) (same : SameBanks b d) (ls
         },
         one.1,
       )
-  call_same e (Accepted x) (Refused call w) f g p q c k = absurd (not_both a s x call w ls ms (one_call _ _ (same_Some _ _ (f ∙ sym g))) p q)
-  call_same e (Refused call w) (Accepted y) f g p q c k = absurd (not_both a s y call w ms ls (one_call _ _ (same_Some _ _ (g ∙ sym f))) q p)
+  call_same e (Accepted x) (Refused call w) f g p q c k = absurd (not_both a s x call w ls ms (same_Some _ _ (f ∙ sym g)) p q)
+  call_same e (Refused call w) (Accepted y) f g p q c k = absurd (not_both a s y call w ms ls (same_Some _ _ (g ∙ sym f)) q p)
   call_same e (Refused call w) (Refused other z) f g p q c k =
-      let form : event_for call ≡ event_for other = same_Some _ _ (f ∙ sym g) in
-      let q' = subst (λ i. Answered a s (Refused i z) ms) (sym (one_call call other form)) q in (
+      let form : call ≡ other = same_Some _ _ (f ∙ sym g) in
+      let q' = subst (λ i. Answered a s (Refused i z) ms) (sym form) q in (
         record {
-          text = ap (λ i. event_then i (44 ∷ refused_text w)) form ∙ ap (λ i. event_then (event_for other) (44 ∷ i)) (same_refused_text w z (refused_number _ _ w z p.by q'.by) (p.named ∙ sym q'.named));
+          text = ap (λ i. event_then i (44 ∷ refused_text w)) form ∙ ap (λ i. event_then other (44 ∷ i)) (same_refused_text w z (refused_number _ _ w z p.by q'.by) (p.named ∙ sym q'.named));
           moved = λ l i. refl;
           tick = refl;
           release = refl;

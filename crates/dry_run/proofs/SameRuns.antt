@@ -8,7 +8,7 @@ use Rattle.controller.specs.Banks.{BankChanges}
 use Rattle.controller.specs.declared.controller.Controller.{Controller}
 use Rattle.event.specs.Answers.{calls_of, event_of, line_text, unreadable_text}
 use Rattle.event.specs.Lines.{read_event, event_questions}
-use Rattle.event.specs.declared.event.Event.{Event}
+use Rattle.rules.specs.declared.call.Call.{Call as Event}
 use Rattle.bank.specs.Questions.{Told}
 use Rattle.plan.specs.Contents.{Contents, resource_count}
 use Rattle.plan_text.specs.Texts.{Verdict}

@@ -8,7 +8,7 @@ use Rattle.controller.specs.declared.controller.Controller.{Controller}
 use Rattle.dry_run.specs.Banks.{Banks}
 use Rattle.event.specs.Answers.{unreadable_text}
 use Rattle.event.specs.Lines.{read_event, event_questions, ReadsEvent}
-use Rattle.event.specs.declared.event.Event.{Event}
+use Rattle.rules.specs.declared.call.Call.{Call as Event}
 use Rattle.plan.specs.Contents.{Contents}
 use Rattle.plan_text.specs.Texts.{Verdict, read_text}
 use Rattle.rules.specs.Histories.{History, made, called}

@@ -3,7 +3,7 @@ use Rattle.std.specs.Prelude.{◌≡◌, ℕ, ◌+◌, ◌*◌, ◌≤◌, List,
 use Rattle.controller.specs.declared.controller.Controller.{Controller}
 use Rattle.event.specs.Answers.{calls_of, event_of, line_text, unreadable_text}
 use Rattle.event.specs.Lines.{event_text}
-use Rattle.event.specs.declared.event.Event.{Event}
+use Rattle.rules.specs.declared.call.Call.{Call as Event}
 use Rattle.rules.specs.Histories.{History}
 use Rattle.rules.specs.Runs.{LawfulRun}
 use Rattle.rules.specs.declared.event.Event.{Event as Call}

@@ -6,9 +6,9 @@ ghost use Rattle.dry_run.specs.Steps.{line_size, LineTaken, RunsOn};
 use byte_vec::byte_vec::ByteVec;
 use controller::controller::Controller;
 use event::answered::Answered;
-use event::event::Event;
 use pair::pair::Pair;
 use readers_writers::lines::ReadersWriters;
+use rules::call::Call;
 use slots::slots::Slots;
 use text::memory::write_bytes;
 use text::number::push_field;
@@ -16,13 +16,13 @@ use text::refusal::Refusal;
 
 // Puts an event to the controller.
 #[tactic(auto, using(crate::proofs::Steps::one_call))]
-fn call(controller: &mut Controller<Pair<Slots, ReadersWriters>>, event: Event) -> Answered
+fn call(controller: &mut Controller<Pair<Slots, ReadersWriters>>, event: Call) -> Answered
     ensures event { event_of (call_of result) ≡ Some event }
     ensures runs { RunsOn controller.old (calls_of (call_of result)) controller.new }
 {
     match event {
-        Event::Release(task) => Answered::Release(task, controller.release(task)),
-        Event::Ask {
+        Call::Release(task) => Answered::Release(task, controller.release(task)),
+        Call::Ask {
             task,
             resource,
             mode,
@@ -32,9 +32,9 @@ fn call(controller: &mut Controller<Pair<Slots, ReadersWriters>>, event: Event) 
             mode,
             answer: controller.ask(task, resource, mode),
         },
-        Event::Give(task) => Answered::Give(task, controller.give(task)),
-        Event::Finish(task) => Answered::Finish(task, controller.finish(task)),
-        Event::Tick => Answered::Tick(controller.tick()),
+        Call::Give(task) => Answered::Give(task, controller.give(task)),
+        Call::Finish(task) => Answered::Finish(task, controller.finish(task)),
+        Call::Tick => Answered::Tick(controller.tick()),
     }
 }
 
@@ -73,7 +73,7 @@ pub(crate) fn lay_unreadable(why: Refusal, out: &mut [u8], at: usize) -> usize
 // it.
 pub(crate) fn answer_line(
     controller: &mut Controller<Pair<Slots, ReadersWriters>>,
-    event: Result<Event, Refusal>,
+    event: Result<Call, Refusal>,
     out: &mut [u8],
     at: usize,
 ) -> usize

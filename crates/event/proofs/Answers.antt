@@ -4,10 +4,10 @@ use Rattle.event.specs.Answers.{call_of, event_of, answer_text, line_text, event
 use Rattle.event.specs.Lines.{event_then, event_text}
 use Rattle.event.specs.declared.answered.Answered.{Answered}
 use Rattle.event.specs.declared.answered.Answered.TheVariants as answered
-use Rattle.event.specs.declared.event.Event.{Event}
-use Rattle.event.specs.declared.event.Event.TheVariants.{Release, Ask, Give, Finish, Tick}
+use Rattle.rules.specs.declared.call.Call.{Call}
+use Rattle.rules.specs.declared.call.Call.TheVariants.{Release, Ask, Give, Finish, Tick}
 
-abbrev pub event_in : Answered → Event
+abbrev pub event_in : Answered → Call
 event_in (answered.Release t x) = Release t
 event_in (answered.Ask t r m x) = Ask t r m
 event_in (answered.Give t x) = Give t

@@ -18,8 +18,6 @@ use Rattle.text.specs.declared.refusal.Refusal.{Refusal as Unread}
 use Rattle.event.specs.Lines.{event_then, event_text}
 use Rattle.event.specs.declared.answered.Answered.{Answered}
 use Rattle.event.specs.declared.answered.Answered.TheVariants as answered
-use Rattle.event.specs.declared.event.Event.{Event}
-use Rattle.event.specs.declared.event.Event.TheVariants.{Release, Ask, Give, Finish, Tick}
 
 -- an event with its answer, as the rule book has it
 abbrev pub call_of : Answered → Call
@@ -29,17 +27,10 @@ call_of (answered.Give t x) = gave t x
 call_of (answered.Finish t x) = finished t x
 call_of (answered.Tick x) = ticked x
 
--- the event of a call
-abbrev pub event_for : Asking → Event
-event_for (Asking.Release t) = Release t
-event_for (Asking.Ask t r m) = Ask t r m
-event_for (Asking.Give t) = Give t
-event_for (Asking.Finish t) = Finish t
-event_for Asking.Tick = Tick
-
-abbrev pub event_of : Call → Option Event
-event_of (Accepted x) = Some (event_for (called x))
-event_of (Refused call why) = Some (event_for call)
+-- the call of an event
+abbrev pub event_of : Call → Option Asking
+event_of (Accepted x) = Some (called x)
+event_of (Refused call why) = Some call
 
 -- the task that a refusal names, if it names one, and the newline
 abbrev pub named_text : Option ℕ → List ℕ
@@ -95,8 +86,8 @@ accepted_text (Acceptance.Tick n) = number_text (Ok n)
 
 -- the printed line: the event, a comma and the answer
 abbrev pub line_text : Call → List ℕ
-line_text (Accepted x) = event_then (event_for (called x)) (code "," ∷ accepted_text x)
-line_text (Refused call why) = event_then (event_for call) (code "," ∷ refused_text why)
+line_text (Accepted x) = event_then (called x) (code "," ∷ accepted_text x)
+line_text (Refused call why) = event_then (call) (code "," ∷ refused_text why)
 
 -- what is printed of a line that is no event: `?,no,` and the number of its refusal
 abbrev pub unreadable_text : Unread → List ℕ
@@ -104,5 +95,5 @@ unreadable_text why = codes "?,no," ++ (decimal (number_of why) ++ codes "\n")
 
 -- the size of a call's event line
 abbrev pub event_size : Call → ℕ
-event_size (Accepted x) = length (event_text (event_for (called x)))
-event_size (Refused call why) = length (event_text (event_for call))
+event_size (Accepted x) = length (event_text (called x))
+event_size (Refused call why) = length (event_text (call))

@@ -1,101 +1,77 @@
--- An event and its line: the five forms.
-use Rattle.std.specs.Prelude.{◌≡◌, ℕ, ◌<◌, cond, List, [], ◌∷◌, ◌++◌}
-use Rattle.std.specs.Prelude.{is_some, Some, None, Ok, Err, Option, Result}
-use Rattle.std.specs.Prelude.{codes, decimal, ◌==◌, ◌≢◌}
+-- A call and its event line: the five forms.
+use Rattle.std.specs.Prelude.{◌≡◌, ℕ, cond, List, [], ◌∷◌, ◌==◌}
+use Rattle.std.specs.Prelude.{is_some, Some, None, Ok, Err, Option, Result, option_map}
 use Prim.Native.Char.{code}
+use Rattle.std.specs.Option.{option_and_then}
+use Rattle.text.specs.Fields.{AreFields, IsImage, fields_of, fields_then, line_text, of_none, of_number}
 use Rattle.text.specs.Questions.{Question, ask, first_no}
 use Rattle.text.specs.Refusals.{number}
+use Rattle.text.specs.declared.field.Field.{Field}
+use Rattle.text.specs.declared.field.Field.TheVariants.{Number, Letter}
+use Rattle.text.specs.declared.field.TheConstants.{FIELDS}
 use Rattle.text.specs.declared.refusal.Refusal.{Refusal}
 use Rattle.bank.specs.declared.request.Mode.{Mode}
 use Rattle.bank.specs.declared.request.Mode.TheVariants.{Write, Read}
-use Rattle.item.specs.Lines.{followed, read_field, is_newline}
-use Rattle.event.specs.declared.event.Event.{Event}
-use Rattle.event.specs.declared.event.Event.TheVariants.{Release, Ask, Give, Finish, Tick}
+use Rattle.rules.specs.declared.call.Call.{Call}
+use Rattle.rules.specs.declared.call.Call.TheVariants.{Release, Ask, Give, Finish, Tick}
 
 -- the letter of a mode
 abbrev pub mode_letter : Mode → ℕ
 mode_letter Write = code "W"
 mode_letter Read = code "R"
 
--- an event as it is written, and what stands behind it
-abbrev pub event_then : Event → List ℕ → List ℕ
-event_then (Release t) rest = codes "N," ++ (decimal t ++ rest)
-event_then (Ask t r m) rest = codes "A," ++ followed t (followed r (mode_letter m ∷ rest))
-event_then (Give t) rest = codes "G," ++ (decimal t ++ rest)
-event_then (Finish t) rest = codes "F," ++ (decimal t ++ rest)
-event_then Tick rest = codes "K" ++ rest
+-- the letter and the fields that a call is written as
+abbrev pub event_fields : Call → ℕ × List Field
+event_fields (Release t) = (code "N", Number t ∷ [])
+event_fields (Ask t r m) = (code "A", Number t ∷ Number r ∷ Letter (mode_letter m) ∷ [])
+event_fields (Give t) = (code "G", Number t ∷ [])
+event_fields (Finish t) = (code "F", Number t ∷ [])
+event_fields Tick = (code "K", [])
 
--- the line that an event is written as, with its newline
-abbrev pub event_text : Event → List ℕ
-event_text e = event_then e (codes "\n")
+-- a call as it is written, and what stands behind it
+abbrev pub event_then : Call → List ℕ → List ℕ
+event_then c rest = (event_fields c).0 ∷ fields_then (event_fields c).1 rest
 
--- what a number makes, where the newline follows it
-abbrev pub last_number : (ℕ → Event) → Option (ℕ × List ℕ) → Option Event
-last_number make None = None
-last_number make (Some p) = cond (is_newline p.1) (Some (make p.0)) None
+-- the line that a call is written as, with its newline
+abbrev pub event_text : Call → List ℕ
+event_text c = line_text (event_fields c)
 
 -- the mode that a letter is
 abbrev pub mode_of : ℕ → Option Mode
 mode_of b = cond (b == code "W") (Some Write) (cond (b == code "R") (Some Read) None)
 
--- a comma, the letter of a mode, and the newline
-abbrev pub read_mode : List ℕ → Option Mode
-read_mode [] = None
-read_mode (b ∷ []) = None
-read_mode (b ∷ c ∷ bs) = cond (b == code ",") (cond (is_newline bs) (mode_of c) None) None
+-- the ask that two numbers and the letter of a mode are
+abbrev pub of_ask : List Field → Option Call
+of_ask (Number t ∷ Number r ∷ Letter b ∷ []) = option_map (Ask t r) (mode_of b)
+of_ask fs = None
 
-abbrev pub asks_in : ℕ → ℕ → Option Mode → Option Event
-asks_in t r None = None
-asks_in t r (Some m) = Some (Ask t r m)
+-- the call that a letter and fields are; the letter decides the form
+abbrev pub event_of_fields : ℕ × List Field → Option Call
+event_of_fields l =
+    cond (l.0 == code "N") (of_number Release l.1)
+    (cond (l.0 == code "A") (of_ask l.1)
+    (cond (l.0 == code "G") (of_number Give l.1)
+    (cond (l.0 == code "F") (of_number Finish l.1)
+    (cond (l.0 == code "K") (of_none Tick l.1) None))))
 
--- a line of one field, and one of two and a mode
-abbrev pub read_one : (ℕ → Event) → List ℕ → Option Event
-read_one make bs = last_number make (read_field bs)
+-- the call that a line is
+abbrev pub read_event : List ℕ → Option Call
+read_event line = option_and_then event_of_fields (fields_of line)
 
-abbrev pub read_second : ℕ → Option (ℕ × List ℕ) → Option Event
-read_second t None = None
-read_second t (Some r) = asks_in t r.0 (read_mode r.1)
+-- every number of a call has at most five digits
+abbrev pub Writable : Call → Type 0
+Writable c = AreFields FIELDS (event_fields c).1
 
-abbrev pub read_first : Option (ℕ × List ℕ) → Option Event
-read_first None = None
-read_first (Some t) = read_second t.0 (read_field t.1)
+-- a line and the call that was read of it are each other's image: the call is written as the line,
+-- and where none was read, no call is
+abbrev pub IsLineOf : List ℕ → Option Call → Type 0
+IsLineOf line call = IsImage event_fields line call
 
-abbrev pub read_ask : List ℕ → Option Event
-read_ask bs = read_first (read_field bs)
-
--- the event that a letter and what stands behind it are; the letter decides the form
-abbrev pub read_form : ℕ → List ℕ → Option Event
-read_form b bs =
-    cond (b == code "N") (read_one Release bs)
-    (cond (b == code "A") (read_ask bs)
-    (cond (b == code "G") (read_one Give bs)
-    (cond (b == code "F") (read_one Finish bs)
-    (cond (b == code "K") (cond (is_newline bs) (Some Tick) None) None))))
-
--- the event that a line is
-abbrev pub read_event : List ℕ → Option Event
-read_event [] = None
-read_event (b ∷ bs) = read_form b bs
-
--- every number of an event has at most five digits
-abbrev pub Writable : Event → Type 0
-Writable (Release t) = t < 100000
-Writable (Ask t r m) = (t < 100000) × (r < 100000)
-Writable (Give t) = t < 100000
-Writable (Finish t) = t < 100000
-Writable Tick = Unit {0}
-
--- a line and the event that was read of it are each other's image: the event is written as the line,
--- and where none was read, no event is
-abbrev pub IsLineOf : List ℕ → Option Event → Type 0
-IsLineOf line None = (e : Event) → Writable e → line ≢ event_text e
-IsLineOf line (Some e) = Writable e × (line ≡ event_text e)
-
--- is the line an event, its newline and at most sixteen bytes included?
+-- is the line an event?
 abbrev pub event_questions : List ℕ → List Question
 event_questions line = ask 21 (is_some (read_event line)) ∷ []
 
--- the event of a line was read, or the line is refused
-abbrev pub ReadsEvent : List ℕ → Result Event Refusal → Type 0
-ReadsEvent line (Ok e) = (first_no (event_questions line) ≡ None) × (read_event line ≡ Some e)
+-- the call of a line was read, or the line is refused
+abbrev pub ReadsEvent : List ℕ → Result Call Refusal → Type 0
+ReadsEvent line (Ok c) = (first_no (event_questions line) ≡ None) × (read_event line ≡ Some c)
 ReadsEvent line (Err why) = first_no (event_questions line) ≡ Some (number why)

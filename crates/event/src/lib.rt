@@ -3,9 +3,7 @@
 
 /// An event with its answer.
 pub mod answered;
-/// What one event line asks.
-pub mod event;
-/// From a line to its event.
+/// From a line to its call.
 pub mod read;
 /// From an answered event to its line.
 pub mod write;

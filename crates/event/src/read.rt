@@ -1,12 +1,14 @@
 ghost use Rattle.std.specs.Prelude.{◌≡◌, ◌≤◌, length, OnOk};
 ghost use Rattle.std.specs.Result.{result_ok};
-ghost use Rattle.event.specs.Lines.{mode_of, read_mode, read_ask, read_form, read_event};
-ghost use Rattle.event.specs.Lines.{IsLineOf, ReadsEvent};
+ghost use Rattle.event.specs.Lines.{mode_of, event_of_fields, read_event, IsLineOf, ReadsEvent};
 
-use crate::event::Event;
 use bank::request::Mode;
-use item::field::{is_newline, read_field, read_last};
+use rules::call::Call;
+use text::field::{Field, read_fields};
 use text::refusal::Refusal;
+
+/// The most bytes of an event line, its newline included.
+pub const EVENT_BYTES: usize = 16;
 
 // The mode that a letter is, if it is one.
 fn letter_mode(letter: u8) -> Option<Mode>
@@ -19,62 +21,50 @@ fn letter_mode(letter: u8) -> Option<Mode>
     }
 }
 
-// The mode at the end of a line.
-fn last_mode(s: &[u8]) -> Option<Mode>
-    ensures { result ≡ read_mode s.now }
-{
-    match s {
-        [b',', letter, b'\n'] => letter_mode(*letter),
-        _ => None,
-    }
-}
-
-// The two numbers and the mode of an ask behind its letter.
-fn ask(s: &[u8]) -> Option<Event>
-    ensures { result ≡ read_ask s.now }
-{
-    let (task, behind) = read_field(s)?;
-    let (resource, last) = read_field(behind)?;
-    let mode = last_mode(last)?;
-    Some(Event::Ask {
-        task,
-        resource,
-        mode,
-    })
-}
-
-// The event that a letter and what stands behind it are.
+// The call that a letter and fields are.
 #[tactic(auto, using(std::proofs::lemmas::Bool::Decides::nat_tests))]
-fn form(letter: u8, rest: &[u8]) -> Option<Event>
-    ensures { result ≡ read_form letter rest.now }
+fn form(letter: u8, fields: &[Field]) -> Option<Call>
+    ensures { result ≡ event_of_fields (letter, fields.now) }
 {
-    match letter as char {
-        'N' => Some(Event::Release(read_last(rest)?)),
-        'A' => ask(rest),
-        'G' => Some(Event::Give(read_last(rest)?)),
-        'F' => Some(Event::Finish(read_last(rest)?)),
-        'K' => is_newline(rest).then_some(Event::Tick),
+    match (letter as char, fields) {
+        ('N', [Field::Number(task)]) => Some(Call::Release(*task)),
+        (
+            'A',
+            [
+                Field::Number(task),
+                Field::Number(resource),
+                Field::Letter(mode),
+            ],
+        ) => {
+            let mode = letter_mode(*mode)?;
+            Some(Call::Ask {
+                task: *task,
+                resource: *resource,
+                mode,
+            })
+        }
+        ('G', [Field::Number(task)]) => Some(Call::Give(*task)),
+        ('F', [Field::Number(task)]) => Some(Call::Finish(*task)),
+        ('K', []) => Some(Call::Tick),
         _ => None,
     }
 }
 
-// The event that a line is, by its letter and fields.
-fn parse(line: &[u8]) -> Option<Event>
+// The call that a line is, if it has one of the five forms.
+fn parse(line: &[u8]) -> Option<Call>
     ensures { result ≡ read_event line.now }
 {
-    let (letter, rest) = line.split_first()?;
-    form(*letter, rest)
+    let (letter, fields) = read_fields(line)?;
+    form(letter, fields.as_slice())
 }
 
-impl Event {
-    /// The event that a line with its newline is. A line that has none of the five forms is refused
-    /// by 21.
-    #[tactic(auto, using(crate::proofs::Lines::is_line_of, crate::proofs::Lines::size_of))]
-    pub fn read(line: &[u8]) -> Result<Event, Refusal>
-        ensures reads { ReadsEvent line.now result }
-        ensures image { IsLineOf line.now (result_ok result) }
-        ensures few { OnOk result (length line.now ≤ 16) }
-    {
-        parse(line).ok_or(Refusal::NotEvent)
-    }
+/// The call that a line with its newline is. A line that has none of the five forms is refused by
+/// 21.
+#[tactic(auto, using(crate::proofs::Lines::is_line_of, crate::proofs::Lines::few_bytes))]
+pub fn read_call(line: &[u8]) -> Result<Call, Refusal>
+    ensures reads { ReadsEvent line.now result }
+    ensures image { IsLineOf line.now (result_ok result) }
+    ensures few { OnOk result (length line.now ≤ EVENT_BYTES) }
+{
+    parse(line).ok_or(Refusal::NotEvent)
 }

@@ -4,10 +4,10 @@ ghost use Rattle.event.specs.Answers.{call_of, event_of, refused_text, number_te
 ghost use Rattle.event.specs.Lines.{event_then, event_text};
 
 use crate::answered::Answered;
-use crate::event::Event;
 use bank::request::Mode;
 use byte_vec::byte_vec::ByteVec;
 use rules::answer::{Asked, Finished, Issued};
+use rules::call::Call;
 use rules::refusal::Refusal as Why;
 use text::memory::write_bytes;
 use text::number::push_field;
@@ -32,17 +32,17 @@ fn push_number(line: &mut ByteVec<64>, n: u32, behind: &[u8])
 }
 
 // An event and a comma.
-fn push_event(line: &mut ByteVec<64>, event: Event)
+fn push_event(line: &mut ByteVec<64>, event: Call)
     requires { length line.old ≤ 0 }
     ensures text { line.new ≡ line.old ++ event_then event (44 ∷ []) }
     ensures few { length (event_text event) ≤ 26 }
 {
     match event {
-        Event::Release(task) => {
+        Call::Release(task) => {
             push_bytes(line, b"N,");
             push_number(line, task, b",");
         }
-        Event::Ask {
+        Call::Ask {
             task,
             resource,
             mode,
@@ -54,15 +54,15 @@ fn push_event(line: &mut ByteVec<64>, event: Event)
                 Mode::Read => push_number(line, resource, b",R,"),
             }
         }
-        Event::Give(task) => {
+        Call::Give(task) => {
             push_bytes(line, b"G,");
             push_number(line, task, b",");
         }
-        Event::Finish(task) => {
+        Call::Finish(task) => {
             push_bytes(line, b"F,");
             push_number(line, task, b",");
         }
-        Event::Tick => push_bytes(line, b"K,"),
+        Call::Tick => push_bytes(line, b"K,"),
     }
 }
 
@@ -182,24 +182,24 @@ fn write_line(answered: Answered, out: &mut [u8], at: usize) -> Result<usize, Re
 impl Answered {
     // The event that was answered.
     #[tactic(auto, using(crate::proofs::Answers::in_line))]
-    fn event(self) -> Event
+    fn event(self) -> Call
         ensures { event_of (call_of self) ≡ Some result }
     {
         match self {
-            Answered::Release(task, _) => Event::Release(task),
+            Answered::Release(task, _) => Call::Release(task),
             Answered::Ask {
                 task,
                 resource,
                 mode,
                 answer: _,
-            } => Event::Ask {
+            } => Call::Ask {
                 task,
                 resource,
                 mode,
             },
-            Answered::Give(task, _) => Event::Give(task),
-            Answered::Finish(task, _) => Event::Finish(task),
-            Answered::Tick(_) => Event::Tick,
+            Answered::Give(task, _) => Call::Give(task),
+            Answered::Finish(task, _) => Call::Finish(task),
+            Answered::Tick(_) => Call::Tick,
         }
     }
 

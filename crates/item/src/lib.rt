@@ -2,8 +2,6 @@
 #![tactic(auto)]
 
 mod ending;
-/// The fields of a line behind its letter.
-pub mod field;
 /// What one line says.
 pub mod item;
 /// From a line to its item.

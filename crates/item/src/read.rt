@@ -1,35 +1,34 @@
 ghost use Rattle.std.specs.Prelude.{◌≡◌};
-ghost use Rattle.item.specs.Lines.{read_three, read_form, read_item, ReadsItem};
+ghost use Rattle.item.specs.Lines.{item_of, read_item, ReadsItem};
 
-use crate::field::{is_newline, read_field, read_last};
 use crate::item::Item;
+use text::field::{Field, read_fields};
 use text::refusal::Refusal;
 
-// The three numbers of a length behind its letter.
-fn length(s: &[u8]) -> Option<Item>
-    ensures { result ≡ read_three s.now }
-{
-    let (task, behind) = read_field(s)?;
-    let (resource, last) = read_field(behind)?;
-    let ticks = read_last(last)?;
-    Some(Item::Length {
-        task,
-        resource,
-        ticks,
-    })
-}
-
-// The item that a letter and what stands behind it are.
+// The item that a letter and fields are.
 #[tactic(auto, using(std::proofs::lemmas::Bool::Decides::nat_tests))]
-fn form(letter: u8, rest: &[u8]) -> Option<Item>
-    ensures { result ≡ read_form letter rest.now }
+fn form(letter: u8, fields: &[Field]) -> Option<Item>
+    ensures { result ≡ item_of (letter, fields.now) }
 {
-    match letter as char {
-        'C' => Some(Item::Cluster(read_last(rest)?)),
-        'S' => Some(Item::Slots(read_last(rest)?)),
-        'W' => is_newline(rest).then_some(Item::ReaderWriter),
-        'T' => Some(Item::Task(read_last(rest)?)),
-        'L' => length(rest),
+    match (letter as char, fields) {
+        ('C', [Field::Number(c)]) => Some(Item::Cluster(*c)),
+        ('S', [Field::Number(k)]) => Some(Item::Slots(*k)),
+        ('W', []) => Some(Item::ReaderWriter),
+        ('T', [Field::Number(g)]) => Some(Item::Task(*g)),
+        (
+            'L',
+            [
+                Field::Number(task),
+                Field::Number(resource),
+                Field::Number(ticks),
+            ],
+        ) => {
+            Some(Item::Length {
+                task: *task,
+                resource: *resource,
+                ticks: *ticks,
+            })
+        }
         _ => None,
     }
 }
@@ -38,8 +37,8 @@ fn form(letter: u8, rest: &[u8]) -> Option<Item>
 fn read_item(line: &[u8]) -> Option<Item>
     ensures { result ≡ read_item line.now }
 {
-    let (letter, rest) = line.split_first()?;
-    form(*letter, rest)
+    let (letter, fields) = read_fields(line)?;
+    form(letter, fields.as_slice())
 }
 
 impl TryFrom<&[u8]> for Item {

@@ -1,7 +1,9 @@
 ghost use Rattle.std.specs.Prelude.{◌≡◌, ◌≤◌, [], ◌∷◌, length};
 ghost use Rattle.text.specs.Memory.{Writes};
 ghost use Rattle.item.specs.declared.item.Item.TheVariants.{Length};
-ghost use Rattle.item.specs.Lines.{ending, item_text, ReadsBack};
+ghost use Rattle.text.specs.Fields.{line_text};
+ghost use Rattle.text.specs.declared.field.Field.TheVariants.{Number};
+ghost use Rattle.item.specs.Lines.{item_text, ReadsBack};
 
 use crate::ending::Ending;
 use crate::item::Item;
@@ -21,7 +23,7 @@ fn prepend_letter(line: &mut Ending, letter: u8)
 // A letter with its comma and a number, in front of the newline.
 fn prepend_one(line: &mut Ending, letter: u8, n: u32)
     requires { line.old ≡ 10 ∷ [] }
-    ensures text { line.new ≡ letter ∷ (44 ∷ ending n) }
+    ensures text { line.new ≡ line_text (letter, Number n ∷ []) }
     ensures few { length line.new ≤ 13 }
 {
     line.number(n);

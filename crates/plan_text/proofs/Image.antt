@@ -85,19 +85,19 @@ items_lines (i ∷ is) all =
 -- the numbers of lawful contents have at most five digits
 module _ (c : Contents) (law : Lawful c) where
   small_cluster : (n : ℕ) → within 1 8 n ≡ true → Writable (Cluster n)
-  small_cluster n e = omega (arith, leb-true n 8 (and_parts _ _ e).1)
+  small_cluster n e = (omega (arith, leb-true n 8 (and_parts _ _ e).1), tt)
 
   small_slots : (k : ℕ) → within 1 (processors c) k ≡ true → Writable (Slots k)
-  small_slots k e = omega (arith, leb-true k (processors c) (and_parts _ _ e).1)
+  small_slots k e = (omega (arith, leb-true k (processors c) (and_parts _ _ e).1), tt)
 
   small_task : (g : ℕ) → ltb g (length c.clusters) ≡ true → Writable (Task g)
-  small_task g e = omega (arith, ltb-true g (length c.clusters) e)
+  small_task g e = (omega (arith, ltb-true g (length c.clusters) e), tt)
 
   small_length : (d : Declared) → in_limits c (length_item d) ≡ true → Writable (length_item d)
   small_length d e =
       let a = and_parts (ltb d.task (length c.tasks)) _ e in
       let b = and_parts (ltb d.resource (resource_count c)) _ a.1 in
-      (omega (arith, ltb-true d.task (length c.tasks) a.0), omega (arith, ltb-true d.resource (resource_count c) b.0), omega (arith, leb-true d.ticks 10000 (and_parts _ _ b.1).1))
+      (omega (arith, ltb-true d.task (length c.tasks) a.0), (omega (arith, ltb-true d.resource (resource_count c) b.0), (omega (arith, leb-true d.ticks 10000 (and_parts _ _ b.1).1), tt)))
 
   all_replicate : (n : ℕ) → AllByRecursion Writable (replicate n ReaderWriter)
   all_replicate zero = tt

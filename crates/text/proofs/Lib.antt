@@ -1,4 +1,6 @@
+pub mod Fields
 pub mod Fronts
+pub mod Images
 pub mod Lays
 pub mod Lines
 pub mod Numbers

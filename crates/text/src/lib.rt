@@ -1,6 +1,8 @@
 //! What plans and events share: decimal numbers, lines, memory handed in, refusals.
 #![tactic(auto)]
 
+/// The letter and the fields of a line.
+pub mod field;
 /// The first line of a text.
 pub mod line;
 /// Bytes written into memory that is handed in.

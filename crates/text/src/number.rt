@@ -9,6 +9,12 @@ use crate::refusal::Refusal;
 use byte_vec::byte_vec::ByteVec;
 use itoa::Buffer;
 
+/// The most digits of a number that is read.
+pub const DIGITS: usize = 5;
+
+/// Numbers that are read are below this one: it is the first that has a digit more.
+pub const NUMBER_END: u32 = 100_000;
+
 // How many digits stand at the head of a text.
 fn count_digits(s: &[u8]) -> usize
     ensures counted { result ≡ prefix_len is_ascii_digit s.now }
@@ -17,10 +23,10 @@ fn count_digits(s: &[u8]) -> usize
     s.iter().take_while(|b| b.is_ascii_digit()).count()
 }
 
-// The number that at most five digits write.
+// The number that a few digits write.
 #[tactic(auto, using(crate::proofs::Fronts::digit_range, std::proofs::lemmas::List::Sums::fold_more, std::proofs::lemmas::Grind::common_steps))]
 fn value(s: &[u8]) -> u32
-    requires { (length s.now ≤ 5) × (((k : ℕ) → k < length s.now → is_ascii_digit (slice_index s.now k) ≡ true)) }
+    requires { (length s.now ≤ DIGITS) × (((k : ℕ) → k < length s.now → is_ascii_digit (slice_index s.now k) ≡ true)) }
     ensures { result ≡ value_of s.now }
 {
     let mut v: u32 = 0;
@@ -37,7 +43,7 @@ fn head_number(s: &[u8]) -> Option<(u32, usize)>
     ensures within { elim result [ None ↦ Unit {0} | Some p ↦ p.1 ≤ length s.now ] }
 {
     let n = count_digits(s);
-    if n < 1 || n > 5 {
+    if n < 1 || n > DIGITS {
         return None;
     }
     if s[0] == b'0' && n != 1 {

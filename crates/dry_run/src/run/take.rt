@@ -15,11 +15,12 @@ use crate::refused::{lay_no_end, lay_refused};
 use crate::run::{DryRun, Phase};
 use byte_vec::byte_vec::{ByteVec, Full};
 use controller::controller::Controller;
-use event::event::Event;
+use event::read::read_call;
 use pair::pair::Pair;
 use plan::plan::Plan;
 use plan_text::read::read;
 use readers_writers::lines::ReadersWriters;
+use rules::call::Call;
 use slots::slots::Slots;
 use text::refusal::Refusal;
 
@@ -55,12 +56,12 @@ fn behind_plan(
 }
 
 // The event that a line is with its newline. One that has no room for it is longer than any event.
-fn line_event(mut line: ByteVec<16>) -> Result<Event, Refusal>
+fn line_event(mut line: ByteVec<16>) -> Result<Call, Refusal>
     ensures reads { ReadsEvent (line ++ (10 ∷ [])) result }
     ensures size { 10 * line_size result ≤ line_reserve line + 10 }
 {
     match line.push(b'\n') {
-        Ok(()) => Event::read(line.as_slice()),
+        Ok(()) => read_call(line.as_slice()),
         Err(Full) => Err(Refusal::NotEvent),
     }
 }
