@@ -1,19 +1,19 @@
 -- The holder nearest its end, where what each task has asked for keeps its declared length.
-use Rattle.std.proofs.Common.{◌≡◌, ℕ, ◌+◌, ◌-◌, ◌<◌, ◌≤◌, true, List, Some, None, Option, unwrap_or, sym, refl, ap, ◌∙◌, inl, ⊎_elim, arith}
-use Rattle.std.proofs.lemmas.Bool.{cases_lt, leb-true, false≢true, both_ways}
+use Rattle.std.proofs.Common.{◌≡◌, ℕ, ◌+◌, ◌-◌, ◌≤◌, true, false, Bool, cond, eqb, Some, None, Option, unwrap_or, sym, refl, ap, ◌∙◌, arith}
+use Rattle.std.proofs.lemmas.Bool.{leb-true, false≢true}
 use Rattle.bank.specs.Meaning.{Lists}
 use Rattle.bank.specs.Questions.{Told}
 use Rattle.plan.specs.Contents.{Contents, length_at}
 use Rattle.rules.specs.Holders.{HasLeft, IsNearestEnd, ticks_left}
 use Rattle.rules.specs.Jobs.{Setup, Snapshot}
 use Rattle.rules.specs.Questions.{length_for}
-use Rattle.rules.specs.States.{is_holding, wanted_of}
+use Rattle.rules.specs.States.{is_holding, wanted_of, idle_task}
 use Rattle.rules.specs.declared.task.State.{State}
 use Rattle.rules.specs.declared.task.State.TheVariants.{Idle, Going, HeldBack, Waiting, Holding}
 use Rattle.rules.specs.declared.task.Task.{Task}
 use Rattle.rules.proofs.Holders.{is_nearest}
-use Rattle.table.specs.Rows.{tasks_in, is_within, keeps_length, KeepsLengths, setup_with, snapshot_with, nearest_of}
-use Rattle.table.proofs.Ranks.{tasks_past}
+use Rattle.table.specs.Rows.{without, is_within, keeps_length, KeepsLengths, setup_with, snapshot_with, nearest_of}
+use Rattle.table.proofs.Firsts.{below_end}
 
 -- a declared length that is not passed is what was used and the rest
 rest_of : (o : Option ℕ) (n : ℕ) → is_within n o ≡ true → o ≡ Some (n + (unwrap_or o 0 - n))
@@ -36,16 +36,17 @@ holder_left a s t (Holding w) is kept e = record {
       ∙ ap (λ (st : State). Some ((s.tasks t).used + (length_for a t (wanted_of st).resource - (s.tasks t).used))) (sym is);
 }
 
--- who holds is one of the first n tasks
-holder_known : (n : ℕ) (rows : List Task) (t : ℕ) → is_holding (tasks_in n rows t).state ≡ true → t < n
-holder_known n rows t e =
-    ⊎_elim
-    (λ (l : t < n). l)
-    (λ (far : n ≤ t). absurd (both_ways (is_holding (tasks_in n rows t).state) (ap (λ (k : Task). is_holding k.state) (tasks_past n rows t (inl far))) e))
-    (cases_lt t n)
+-- a task without a job keeps every length
+pub without_keeps : (p : Contents) (ended : Option ℕ) (tasks : ℕ → Task) → KeepsLengths p tasks → KeepsLengths p (without ended tasks)
+without_keeps p None tasks kept q = kept q
+without_keeps p (Some t) tasks kept q = go (eqb t q)
+  where
+    go : (b : Bool) → keeps_length p q (cond b idle_task (tasks q)).used (cond b idle_task (tasks q)).state ≡ true
+    go true = refl
+    go false = kept q
 
-pub nearest_kept : (p : Contents) (n : ℕ) (rows : List Task) → KeepsLengths p (tasks_in n rows) → (told : Told) (k : ℕ) (ls : Lists) (clock releases : ℕ) → IsNearestEnd (setup_with p told n k) (snapshot_with n rows ls clock releases) (nearest_of p n rows)
-nearest_kept p n rows kept told k ls clock releases =
+pub nearest_kept : (p : Contents) (n : ℕ) (tasks : ℕ → Task) → ((q : ℕ) → n ≤ q → tasks q ≡ idle_task) → KeepsLengths p tasks → (told : Told) (k : ℕ) (ls : Lists) (clock releases : ℕ) → IsNearestEnd (setup_with p told n k) (snapshot_with tasks ls clock releases) (nearest_of p n tasks)
+nearest_kept p n tasks idle kept told k ls clock releases =
     let a = setup_with p told n k in
-    let s = snapshot_with n rows ls clock releases in
-    is_nearest a s (holder_known n rows) (λ t e. holder_left a s t (s.tasks t).state refl (kept t) e)
+    let s = snapshot_with tasks ls clock releases in
+    is_nearest a s (below_end n tasks (λ t. is_holding t.state) idle refl) (λ t e. holder_left a s t (tasks t).state refl (kept t) e)

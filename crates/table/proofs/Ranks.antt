@@ -1,5 +1,5 @@
 -- The jobs before one, counted in a row and over all tasks.
-use Rattle.std.proofs.Common.{◌≡◌, ℕ, zero, suc, ◌≤◌, Bool, true, false, cond, ◌&&◌, eqb, ltb, ◌⊎◌, List, length, get_or, count_by, sym, refl, ap, ◌∙◌, inl, inr, ⊎_elim, arith}
+use Rattle.std.proofs.Common.{◌≡◌, ℕ, zero, suc, ◌≤◌, Bool, true, false, cond, ◌&&◌, eqb, ltb, ◌⊎◌, List, length, get_or, Some, None, Option, count_by, sym, refl, ap, ◌∙◌, inl, inr, ⊎_elim, arith}
 use Rattle.std.proofs.lemmas.Bool.{cases_eq, cond-false, le-ltb}
 use Rattle.std.proofs.lemmas.Bool.Decides.{nat_tests}
 use Rattle.std.specs.List.{filter_map, range_with_len}
@@ -12,7 +12,7 @@ use Rattle.rules.specs.declared.task.State.TheVariants.{Idle}
 use Rattle.rules.specs.declared.task.Task.{Task}
 use Rattle.rules.proofs.Counts.{count_same}
 use Rattle.table.specs.Members.{members_of}
-use Rattle.table.specs.Rows.{tasks_in, selects, job_at, comes_before}
+use Rattle.table.specs.Rows.{tasks_in, without, selects, job_at, comes_before}
 use Rattle.table.specs.declared.selection.Selection.{Selection}
 use Rattle.table.specs.declared.selection.Selection.TheVariants.{Unfinished, Ready, HeldBack}
 use Rattle.table.proofs.Rows.{past_end}
@@ -22,6 +22,15 @@ use Rattle.table.proofs.Selected.{of_filter, count_row}
 pub tasks_past : (n : ℕ) (rows : List Task) (q : ℕ) → (n ≤ q) ⊎ (length rows ≤ q) → tasks_in n rows q ≡ idle_task
 tasks_past n rows q (inl h) = cond-false (ltb q n) _ _ (le-ltb q n h)
 tasks_past n rows q (inr h) = ap (λ x. cond (ltb q n) x idle_task) (past_end rows q idle_task h) ∙ same (ltb q n)
+  where
+    same : (b : Bool) → cond b idle_task idle_task ≡ idle_task
+    same true = refl
+    same false = refl
+
+-- so are they where the job of one is looked at as ended
+pub records_past : (ended : Option ℕ) (n : ℕ) (rows : List Task) (q : ℕ) → n ≤ q → without ended (tasks_in n rows) q ≡ idle_task
+records_past None n rows q h = tasks_past n rows q (inl h)
+records_past (Some t) n rows q h = ap (λ x. cond (eqb t q) idle_task x) (tasks_past n rows q (inl h)) ∙ same (eqb t q)
   where
     same : (b : Bool) → cond b idle_task idle_task ≡ idle_task
     same true = refl
@@ -49,17 +58,17 @@ before_number true true x t n = grind (arith, nat_tests)
 before_number true false x t n = refl
 before_number false b x t n = refl
 
-pub jobs_counted : (p : Contents) (n : ℕ) (rows : List Task) (which : Selection) (g release : ℕ) → n ≤ length p.tasks
-    → count_by (λ y. job_before y (record { release = release; task = 0 })) (filter_map (job_at n rows which) (members_of p g)) ≡ count_below (comes_before p n rows which g release) n
-jobs_counted p n rows which g release known =
-    let chosen : ℕ → Bool = λ t. selects which (tasks_in n rows t).state in
+pub jobs_counted : (p : Contents) (n : ℕ) (tasks : ℕ → Task) (which : Selection) (g release : ℕ) → n ≤ length p.tasks → ((q : ℕ) → n ≤ q → tasks q ≡ idle_task)
+    → count_by (λ y. job_before y (record { release = release; task = 0 })) (filter_map (job_at tasks which) (members_of p g)) ≡ count_below (comes_before p tasks which g release) n
+jobs_counted p n tasks which g release known idle =
+    let chosen : ℕ → Bool = λ t. selects which (tasks t).state in
     let inside : ℕ → Bool = λ t. eqb (get_or p.tasks t 0) g in
-    let job : ℕ → Job = λ t. record { release = (tasks_in n rows t).release; task = t } in
+    let job : ℕ → Job = λ t. record { release = (tasks t).release; task = t } in
     let first : Job → Bool = λ y. job_before y (record { release = release; task = 0 }) in
     ap (count_by first) (of_filter chosen inside job (range_with_len 0 (length p.tasks)))
     ∙ (count_row (λ t. chosen t && inside t) job first (length p.tasks)
-    ∙ (count_same _ (comes_before p n rows which g release) (length p.tasks) (λ t lt. before_number (chosen t) (inside t) (tasks_in n rows t).release t release)
-    ∙ count_past (comes_before p n rows which g release) n (length p.tasks) known none))
+    ∙ (count_same _ (comes_before p tasks which g release) (length p.tasks) (λ t lt. before_number (chosen t) (inside t) (tasks t).release t release)
+    ∙ count_past (comes_before p tasks which g release) n (length p.tasks) known none))
   where
-    none : (k : ℕ) → n ≤ k → comes_before p n rows which g release k ≡ false
-    none k far = ap (λ (t : Task). selects which t.state && (eqb (get_or p.tasks k 0) g && ltb t.release release)) (tasks_past n rows k (inl far)) ∙ ap (λ b. b && (eqb (get_or p.tasks k 0) g && ltb 0 release)) (idle_unselected which)
+    none : (k : ℕ) → n ≤ k → comes_before p tasks which g release k ≡ false
+    none k far = ap (λ (t : Task). selects which t.state && (eqb (get_or p.tasks k 0) g && ltb t.release release)) (idle k far) ∙ ap (λ b. b && (eqb (get_or p.tasks k 0) g && ltb 0 release)) (idle_unselected which)

@@ -5,6 +5,7 @@ ghost use Rattle.bank.specs.Meaning.{Lists};
 ghost use Rattle.bank.specs.Questions.{Told};
 ghost use Rattle.rules.specs.Holders.{IsNearestEnd};
 ghost use Rattle.table.specs.Rows.{holder_at, nearest_of, setup_with, snapshot_with};
+ghost use Rattle.table.specs.Tables.{records_of};
 
 use crate::table::Table;
 use arrayvec::ArrayVec;
@@ -16,7 +17,7 @@ impl Table<'_> {
     // The holder of a task, if it holds, with the ticks that it has left.
     fn holder_at(&self, task: usize) -> Option<Holder>
         requires { task < 64 }
-        ensures { result ≡ holder_at (plan_contents self.now.plan.now) self.now.tasks self.now.rows.now task }
+        ensures { result ≡ holder_at (plan_contents self.now.plan.now) (records_of self.now) task }
     {
         let record = self.task(task);
         let State::Holding(wanted) = record.state else {
@@ -31,7 +32,9 @@ impl Table<'_> {
 
     // The holders.
     fn holder_row(&self) -> ArrayVec<Holder, 64>
-        ensures { result.items ≡ filter_map (holder_at (plan_contents self.now.plan.now) self.now.tasks self.now.rows.now) (range_with_len 0 self.now.tasks) }
+        ensures { result.items ≡ filter_map
+            (holder_at (plan_contents self.now.plan.now) (records_of self.now))
+            (range_with_len 0 self.now.tasks) }
     {
         let mut row = ArrayVec::new();
         for task in 0..self.tasks {
@@ -46,7 +49,7 @@ impl Table<'_> {
     // left.
     fn nearest(&self) -> Option<(u32, u32)>
         ensures { result ≡ nearest_of (plan_contents self.now.plan.now) self.now.tasks
-            self.now.rows.now }
+            (records_of self.now) }
     {
         let row = self.holder_row();
         let holders = row.as_slice();
@@ -58,10 +61,10 @@ impl Table<'_> {
     /// ticks left. Nothing where nobody holds.
     pub fn nearest_end(&self) -> Option<(u32, u32)>
         ensures value { result ≡ nearest_of (plan_contents self.now.plan.now) self.now.tasks
-            self.now.rows.now }
+            (records_of self.now) }
         ensures nearest { (told : Told) (k : ℕ) (ls : Lists) (clock releases : ℕ) → IsNearestEnd
             (setup_with (plan_contents self.now.plan.now) told self.now.tasks k)
-            (snapshot_with self.now.tasks self.now.rows.now ls clock releases) result }
+            (snapshot_with (records_of self.now) ls clock releases) result }
     {
         self.nearest()
     }

@@ -5,6 +5,7 @@ ghost use Rattle.plan.specs.Of.{plan_contents};
 ghost use Rattle.rules.specs.Jobs.{count_below, runs, first};
 ghost use Rattle.table.specs.Members.{members_of};
 ghost use Rattle.table.specs.Rows.{job_at, comes_before, ranks_among, setup_with, jobs_of};
+ghost use Rattle.table.specs.Tables.{records_of};
 
 use crate::selection::Selection;
 use crate::table::Table;
@@ -14,9 +15,20 @@ use order::row::count_before;
 use rules::task::Task;
 
 impl Table<'_> {
+    // The record of a task.
+    pub(crate) fn task(&self, task: usize) -> Task
+        ensures { result ≡ records_of self.now task }
+    {
+        if task < self.tasks && self.ended != Some(task) {
+            self.rows[task]
+        } else {
+            Task::IDLE
+        }
+    }
+
     // The job of a task, if it is selected.
     fn job_at(&self, which: Selection, task: u8) -> Option<Job>
-        ensures { result ≡ job_at self.now.tasks self.now.rows.now which task }
+        ensures { result ≡ job_at (records_of self.now) which task }
     {
         let Task { state, release, .. } = self.task(task as usize);
         which.has(state).then_some(Job {
@@ -27,7 +39,7 @@ impl Table<'_> {
 
     // The selected jobs of a cluster.
     pub(crate) fn job_row(&self, which: Selection, cluster: u8) -> ArrayVec<Job, 64>
-        ensures { result.items ≡ filter_map (job_at self.now.tasks self.now.rows.now which)
+        ensures { result.items ≡ filter_map (job_at (records_of self.now) which)
             (members_of (plan_contents self.now.plan.now) cluster) }
     {
         let mut row = ArrayVec::new();
@@ -43,7 +55,8 @@ impl Table<'_> {
     // How many selected jobs of the cluster have smaller release numbers. Compared with task 0, so
     // that no job of the same number comes before.
     fn jobs_before(&self, which: Selection, cluster: u8, release: u32) -> usize
-        ensures { result ≡ count_below (comes_before (plan_contents self.now.plan.now) self.now.tasks self.now.rows.now which cluster release) self.now.tasks }
+        ensures { result ≡ count_below (comes_before (plan_contents self.now.plan.now)
+            (records_of self.now) which cluster release) self.now.tasks }
     {
         let row = self.job_row(which, cluster);
         count_before(row.as_slice(), &Job { release, task: 0 })
@@ -51,7 +64,8 @@ impl Table<'_> {
 
     // Whether the job of a task is selected, and fewer such come before it than its cluster has processors.
     fn ranks(&self, which: Selection, task: usize) -> bool
-        ensures { result ≡ ranks_among (plan_contents self.now.plan.now) self.now.tasks self.now.rows.now which task }
+        ensures { result ≡ ranks_among (plan_contents self.now.plan.now) self.now.tasks
+            (records_of self.now) which task }
     {
         let Task { state, release, .. } = self.task(task);
         which.has(state)
@@ -62,7 +76,9 @@ impl Table<'_> {
     /// Whether the job of a task is ready and runs: fewer ready jobs of its cluster were released
     /// before it than the cluster has processors.
     pub fn runs(&self, task: usize) -> bool
-        ensures { (told : Told) (k : ℕ) → result ≡ runs (setup_with (plan_contents self.now.plan.now) told self.now.tasks k) (jobs_of self.now.tasks self.now.rows.now) task }
+        ensures { (told : Told) (k : ℕ) → result ≡ runs
+            (setup_with (plan_contents self.now.plan.now) told self.now.tasks k)
+            (jobs_of (records_of self.now)) task }
     {
         self.ranks(Selection::Ready, task)
     }
@@ -70,7 +86,9 @@ impl Table<'_> {
     /// Whether the job of a task is among the first of its cluster: fewer unfinished jobs of the
     /// cluster were released before it than the cluster has processors.
     pub fn is_first(&self, task: usize) -> bool
-        ensures { (told : Told) (k : ℕ) → result ≡ first (setup_with (plan_contents self.now.plan.now) told self.now.tasks k) (jobs_of self.now.tasks self.now.rows.now) task }
+        ensures { (told : Told) (k : ℕ) → result ≡ first
+            (setup_with (plan_contents self.now.plan.now) told self.now.tasks k)
+            (jobs_of (records_of self.now)) task }
     {
         self.ranks(Selection::Unfinished, task)
     }

@@ -19,6 +19,8 @@ pub struct Table<'a> {
     pub tasks: usize,
     /// Their records, each at the place of its task.
     pub rows: &'a [Task; 64],
+    /// The task whose job is looked at as ended, if any.
+    pub ended: Option<usize>,
     ghost all_records: { length rows.now ≡ 64 },
     ghost known_tasks: { tasks ≤ length (plan_contents plan.now).tasks },
     ghost keeps_members: { KeepsMembers (plan_contents plan.now) members.now },
@@ -52,16 +54,5 @@ impl Table<'_> {
         ensures few { length result.now ≤ 64 }
     {
         self.members.of_cluster(cluster)
-    }
-
-    // The record of a task.
-    pub(crate) fn task(&self, task: usize) -> Task
-        ensures { result ≡ tasks_in self.now.tasks self.now.rows.now task }
-    {
-        if task < self.tasks {
-            self.rows[task]
-        } else {
-            Task::IDLE
-        }
     }
 }
