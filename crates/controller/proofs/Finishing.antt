@@ -1,6 +1,5 @@
 -- The request that a finish issues, and the answer.
 use Rattle.std.proofs.Common.{◌≡◌, ℕ, ◌<◌, Bool, true, false, cond, ◌&&◌, eqb, Some, None, Ok, Err, Option, sym, refl, ap, ◌∙◌, subst, arith}
-use mathlib.Core.Path.{fun_ext}
 use Rattle.std.proofs.lemmas.Bool.{and_parts, false≢true}
 use Rattle.bank.specs.Meaning.{Lists, Enters}
 use Rattle.bank.specs.Questions.{number as bank_number}
@@ -12,10 +11,8 @@ use Rattle.rules.specs.Questions.{questions, issue_questions, next_questions, wa
 use Rattle.rules.specs.States.{is_held_back, idle_task}
 use Rattle.rules.specs.declared.call.Call.TheVariants.{Finish}
 use Rattle.rules.specs.declared.refusal.Refusal.TheVariants.{Bank}
-use Rattle.rules.specs.declared.task.Task.{Task}
 use Rattle.rules.specs.declared.task.Wanted.{Wanted}
 use Rattle.rules.proofs.Counts.{least_some}
-use Rattle.table.specs.Rows.{next_of}
 use Rattle.table.proofs.Firsts.{present}
 
 -- the task whose request is issued exists, is held back, and is another than the one whose job ends
@@ -43,10 +40,6 @@ is_next a s t u e = go (least_below test value a.tasks) refl (sym e)
         let same = present (first a (jobs_in (ended s t)) v) v u h in
         let found = least_some test value a.tasks v f in
         subst (IsNext a s t) same.1 (of v found.1 (and_parts _ _ found.0).0 (eqb t v) refl)
-
--- the records of which the job of t is ended
-pub next_same : (a : Setup) (s : Snapshot) (t : ℕ) (tasks : ℕ → Task) (o : Option ℕ) → o ≡ next_of a tasks (cluster_of a t) → ((q : ℕ) → tasks q ≡ cond (eqb t q) idle_task (s.tasks q)) → o ≡ next_issued a s t
-next_same a s t tasks o e h = e ∙ ap (λ (f : ℕ → Task). next_of a f (cluster_of a t)) (fun_ext h)
 
 module _ (a : Setup) (s : Snapshot) (t : ℕ) (own : first_no (questions a s (Finish t)) ≡ None) where
   pub finish_plain : (blocked : ℕ) → None ≡ next_issued a s t → blocked ≡ (s.tasks t).blocked → Answered a s (finished t (Ok (record { blocked = blocked; issued = None }))) s.lists

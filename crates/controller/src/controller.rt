@@ -1,4 +1,4 @@
-ghost use Rattle.std.specs.Prelude.{◌≡◌, ℕ, ◌≤◌, length, slice_index_or};
+ghost use Rattle.std.specs.Prelude.{◌≡◌, ℕ, ◌≤◌, None, length, slice_index_or};
 ghost use Rattle.plan.specs.Contents.{resource_count};
 ghost use Rattle.plan.specs.Of.{plan_contents};
 ghost use Rattle.rules.specs.States.{idle_task};
@@ -40,12 +40,14 @@ impl<B: Bank> Controller<B> {
         ensures members { result.members.now ≡ self.now.members }
         ensures tasks { result.tasks ≡ self.now.tasks }
         ensures rows { result.rows.now ≡ self.now.table.records.rows }
+        ensures ended { result.ended ≡ None }
     {
         Table {
             plan: &self.plan,
             members: &self.members,
             tasks: self.tasks,
             rows: self.table.rows(),
+            ended: None,
         }
     }
 }

@@ -1,13 +1,10 @@
-ghost use Rattle.std.specs.Prelude.{◌≡◌, ℕ, ◌<◌, slice_index};
-ghost use Rattle.bank.specs.Questions.{Told};
+ghost use Rattle.std.specs.Prelude.{◌≡◌, ◌<◌};
 ghost use Rattle.controller.specs.Banks.{BankChanges};
 ghost use Rattle.controller.specs.Of.{setup_of, snapshot_of, Unchanged};
-ghost use Rattle.plan.specs.Of.{plan_contents};
 ghost use Rattle.rules.specs.Answers.{finished};
 ghost use Rattle.rules.specs.Jobs.{next_issued};
 ghost use Rattle.rules.specs.Moves.{Does};
 ghost use Rattle.rules.specs.Runs.{Follows};
-ghost use Rattle.table.specs.Rows.{next_of, setup_with, tasks_in};
 
 use crate::controller::Controller;
 use crate::state::{in_state, issued_state, wanted_of};
@@ -16,19 +13,6 @@ use rules::answer::{Finished, Issued};
 use rules::call::Call;
 use rules::refusal::Refusal;
 use rules::task::Task;
-use table::table::Table;
-
-// The task whose request is issued, where the job of a task has ended.
-#[tactic(auto, using(table::proofs::Rows::entry_there))]
-fn next_task(jobs: &Table, task: usize) -> Option<usize>
-    requires { task < jobs.now.tasks }
-    ensures { (told : Told) (k : ℕ) → result ≡ next_of
-        (setup_with (plan_contents jobs.now.plan.now) told jobs.now.tasks k)
-        (tasks_in jobs.now.tasks jobs.now.rows.now)
-        (slice_index (plan_contents jobs.now.plan.now).tasks task) }
-{
-    jobs.next_issued(jobs.plan.cluster_of(task).unwrap())
-}
 
 impl<B: Bank> Controller<B> {
     // The task whose request is issued when the job of a task ends.
@@ -36,15 +20,7 @@ impl<B: Bank> Controller<B> {
         requires { t < self.now.tasks }
         ensures { result ≡ next_issued (setup_of B.Bank self.now) (snapshot_of B.Bank self.now) t }
     {
-        let mut rows = *self.table.rows();
-        rows[t] = Task::IDLE;
-        let ended = Table {
-            plan: &self.plan,
-            members: &self.members,
-            tasks: self.tasks,
-            rows: &rows,
-        };
-        next_task(&ended, t)
+        self.jobs().next_after(t)
     }
 
     fn do_finish(&mut self, task: u32) -> Result<Finished, Refusal>
