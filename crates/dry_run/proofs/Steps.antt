@@ -1,9 +1,6 @@
 -- What each byte makes of a dry run.
-use Rattle.std.proofs.Common.{◌≡◌, ℕ, ◌+◌, ◌<◌, ◌≤◌, Bool, true, false, ◌&&◌, eqb, List, [], ◌∷◌, ◌++◌, length, take, drop, Some, None, Ok, Err, Result, unwrap_or, is_some, sym, refl, ap, ◌∙◌, subst, append_assoc, append-nil, add-zero, arith, length-append}
-use Rattle.std.proofs.lemmas.List.{length_push, drop_at}
-use Rattle.byte_vec.specs.Bytes.{Appends}
-use Rattle.byte_vec.proofs.Room.{has_room, lacks_room}
-use Rattle.byte_vec.specs.declared.byte_vec.Full.{Full}
+use Rattle.std.proofs.Common.{◌≡◌, ℕ, ◌+◌, ◌-◌, ◌*◌, ◌<◌, ◌≤◌, Bool, true, List, [], ◌∷◌, ◌++◌, length, take, drop, Some, None, Ok, Err, Result, unwrap_or, is_some, sym, refl, ap, ◌∙◌, subst, append_assoc, append-nil, add-zero, arith, length-append}
+use Rattle.std.proofs.lemmas.List.{length_push, length-take, drop_at, take_at}
 use Rattle.controller.specs.declared.controller.Controller.{Controller}
 use Rattle.dry_run.specs.Banks.{Banks}
 use Rattle.event.specs.Answers.{unreadable_text}
@@ -20,8 +17,8 @@ use Rattle.text.specs.Questions.{ask, first_no}
 use Rattle.text.specs.declared.refusal.Refusal.{Refusal}
 use Rattle.text.specs.declared.refusal.Refusal.TheVariants.{NotEvent}
 use Rattle.text.proofs.Writes.{overlay_none, overlay_more}
-use Rattle.dry_run.specs.Fed.{Planning, Replaying, FedIn, Fed, Laid, Takes, Ends}
-use Rattle.dry_run.specs.Steps.{LineDone, RunsOn}
+use Rattle.dry_run.specs.Fed.{line_begins, Planning, Replaying, FedIn, Fed, Laid, Takes, Ends}
+use Rattle.dry_run.specs.Steps.{line_reserve, IsLine, LineDone, Plain, RunsOn}
 use Rattle.dry_run.specs.Made.{meaning, setup, snapshot, MadeFrom, Step}
 use Rattle.dry_run.specs.Plays.{Replays, none, unreadable, answered, Plays, PrintedBy, Printed}
 use Rattle.dry_run.specs.Said.{before_empty, plan_part, part_verdict, verdict, refused_text, preamble_text, behind_plan, said}
@@ -29,13 +26,10 @@ use Rattle.dry_run.specs.declared.run.DryRun.{DryRun}
 use Rattle.dry_run.specs.declared.run.Phase.{Phase}
 use Rattle.dry_run.specs.declared.run.Phase.TheVariants.{Over}
 use Rattle.dry_run.proofs.SameRuns.{one_print}
-use Rattle.dry_run.proofs.Bytes.{begins_push, found_not, part_found, part_none, part_short, Plain, plain_push, plain_line, plain_last, plain_unread, reads_front, front_grows, front_stays}
+use Rattle.dry_run.proofs.Bytes.{begins_more, found_none, front_more, part_found, part_none, part_short, plain_append, plain_line, plain_last, plain_unread, reads_front}
 
 pub into : (p q : Phase) → p ≡ q → (i o : List ℕ) → FedIn p i o → FedIn q i o
 into p q e i o fed = subst (λ x. FedIn x i o) e fed
-
-pub no_empty_line : (b : ℕ) (begun : Bool) → b ≡ 10 → begun ≡ false → (eqb b 10 && begun) ≡ false
-no_empty_line b begun e f = rw (e, f) refl
 
 pub laid_none : (old : List ℕ) (at : ℕ) → Laid old at [] at old
 laid_none old at = (sym (add-zero at), sym (overlay_none old at))
@@ -46,27 +40,27 @@ module _ (text : List ℕ) (begun : Bool) (i o : List ℕ) (planning : Planning 
   size_of : length i ≡ length text
   size_of = ap length (sym planning.held)
 
-  unended_more : (b : ℕ) → (eqb b 10 && begun) ≡ false → before_empty true (i ++ (b ∷ [])) ≡ None
-  unended_more b more = found_not true i b planning.unended (ap (λ v. eqb b 10 && v) (sym planning.begins) ∙ more)
+  unended_more : (bytes : List ℕ) → before_empty begun bytes ≡ None → before_empty true (i ++ bytes) ≡ None
+  unended_more bytes more = found_none true i bytes planning.unended (subst (λ v. before_empty v bytes ≡ None) planning.begins more)
 
-  -- a byte more
-  pub plan_keeps : (b : ℕ) → length text + 1 ≤ 16383 → (eqb b 10 && begun) ≡ false → Planning (text ++ (b ∷ [])) (eqb b 10) (i ++ (b ∷ [])) (o ++ [])
-  plan_keeps b room more = record {
-    held = ap (λ xs. xs ++ (b ∷ [])) planning.held;
-    few = omega (arith, length_push i b, size_of);
-    unended = unended_more b more;
-    begins = sym (begins_push true i b);
+  -- bytes more
+  pub plan_keeps : (bytes : List ℕ) (begins : Bool) → length text + length bytes ≤ 16383 → before_empty begun bytes ≡ None → line_begins begun bytes ≡ begins → Planning (text ++ bytes) begins (i ++ bytes) (o ++ [])
+  plan_keeps bytes begins room more e = record {
+    held = ap (λ xs. xs ++ bytes) planning.held;
+    few = omega (arith, length-append i bytes, size_of);
+    unended = unended_more bytes more;
+    begins = sym e ∙ (ap (λ v. line_begins v bytes) planning.begins ∙ sym (begins_more true i bytes));
     nothing = append-nil o ∙ planning.nothing;
   }
 
   -- the line of a refusal is all that is printed, whatever follows
-  refused : (b question line : ℕ) → ((more : List ℕ) → verdict ((i ++ (b ∷ [])) ++ more) ≡ Err (question, line)) → FedIn Over (i ++ (b ∷ [])) (o ++ refused_text question line)
-  refused b question line e = λ more. subst (λ v. PrintedBy v ((i ++ (b ∷ [])) ++ more) (o ++ refused_text question line)) (sym (e more)) (ap (λ xs. xs ++ refused_text question line) planning.nothing)
+  refused : (bytes : List ℕ) (question line : ℕ) → ((more : List ℕ) → verdict ((i ++ bytes) ++ more) ≡ Err (question, line)) → FedIn Over (i ++ bytes) (o ++ refused_text question line)
+  refused bytes question line e = λ more. subst (λ v. PrintedBy v ((i ++ bytes) ++ more) (o ++ refused_text question line)) (sym (e more)) (ap (λ xs. xs ++ refused_text question line) planning.nothing)
 
-  -- no room for a byte more
-  pub plan_full : (b : ℕ) → 16383 < length text + 1 → (eqb b 10 && begun) ≡ false → FedIn Over (i ++ (b ∷ [])) (o ++ refused_text 22 0)
-  plan_full b full more =
-      refused b 22 0 (λ rest. part_none (i ++ (b ∷ [])) rest (omega (arith, length_push i b, size_of, planning.few)) (unended_more b more))
+  -- no room for them
+  pub plan_full : (bytes : List ℕ) → 16383 < length text + length bytes → before_empty begun bytes ≡ None → FedIn Over (i ++ bytes) (o ++ refused_text 22 0)
+  plan_full bytes full more =
+      refused bytes 22 0 (λ rest. part_none (i ++ bytes) rest (omega (arith, length-append i bytes, size_of)) (unended_more bytes more))
 
 -- the empty line
 module _ (text i o : List ℕ) (planning : Planning text true i o) where
@@ -75,7 +69,7 @@ module _ (text i o : List ℕ) (planning : Planning text true i o) where
 
   pub plan_refused : (question line : ℕ) → read_text text ≡ Err (question, line) → FedIn Over (i ++ (10 ∷ [])) (o ++ refused_text question line)
   plan_refused question line e =
-      refused text true i o planning 10 question line (λ more. ap verdict (append_assoc i (10 ∷ []) more) ∙ (ap part_verdict (found more) ∙ (ap read_text (sym planning.held) ∙ e)))
+      refused text true i o planning (10 ∷ []) question line (λ more. ap verdict (append_assoc i (10 ∷ []) more) ∙ (ap part_verdict (found more) ∙ (ap read_text (sym planning.held) ∙ e)))
 
   pub plan_accepted : (c : Contents) (controller : Controller Banks meaning) → read_text text ≡ Ok c → MadeFrom c controller → Replaying controller [] (i ++ (10 ∷ [])) (o ++ preamble_text c)
   plan_accepted c controller e m = record {
@@ -107,7 +101,7 @@ module _ (text i o : List ℕ) (planning : Planning text true i o) where
 refuses_same : (a b : List ℕ) → read_event a ≡ read_event b → first_no (event_questions a) ≡ first_no (event_questions b)
 refuses_same a b e = ap (λ o. first_no (ask 21 (is_some o) ∷ [])) e
 
-reads_same : (a b : List ℕ) → read_event a ≡ read_event b → (r : Result Event Refusal) → ReadsEvent a r → ReadsEvent b r
+pub reads_same : (a b : List ℕ) → read_event a ≡ read_event b → (r : Result Event Refusal) → ReadsEvent a r → ReadsEvent b r
 reads_same a b e (Ok event) w = (sym (refuses_same a b e) ∙ w.0, sym e ∙ w.1)
 reads_same a b e (Err why) w = sym (refuses_same a b e) ∙ w
 
@@ -118,6 +112,21 @@ one_call k next call follows step = λ h run. (
   subst (λ x. LawfulRun x (snapshot next) (called h call (snapshot next).lists)) (sym step.same) (follows h run.runs),
   (next, step, (refl, refl)),
 )
+
+-- a line whose front was kept up to 16 bytes
+module _ (kept rest : List ℕ) (w : IsLine rest) (line : List ℕ) (e : line ≡ take 16 (kept ++ take (length rest - 1) rest)) where
+  some_rest : length rest ≡ length w.front + 1
+  some_rest = ap length w.text ∙ length_push w.front 10
+
+  front_taken : take (length rest - 1) rest ≡ w.front
+  front_taken = ap (take (length rest - 1)) w.text ∙ take_at w.front (10 ∷ []) (length rest - 1) (omega (arith, some_rest))
+
+  pub reads_kept : (r : Result Event Refusal) → ReadsEvent (line ++ (10 ∷ [])) r → ReadsEvent (kept ++ rest) r
+  reads_kept = reads_same (line ++ (10 ∷ [])) (kept ++ rest)
+      (ap (λ xs. read_event (xs ++ (10 ∷ []))) (e ∙ ap (λ xs. take 16 (kept ++ xs)) front_taken) ∙ (reads_front (kept ++ w.front) [] ∙ ap read_event (append_assoc kept w.front (10 ∷ []) ∙ ap (λ xs. kept ++ xs) (sym w.text))))
+
+  pub kept_reserve : line_reserve line + 10 ≤ line_reserve kept + 10 * length rest
+  kept_reserve = omega (arith, some_rest, ap length front_taken, ap length e, length-take 16 (kept ++ take (length rest - 1) rest), length-append kept (take (length rest - 1) rest))
 
 -- a run goes on by one line
 module _ (c : Contents) (k next : Controller Banks meaning) (lines : List (List ℕ)) (o : List ℕ) (p : Plays c k lines o) (line printed : List ℕ) where
@@ -149,52 +158,38 @@ module _ (c : Contents) (k next : Controller Banks meaning) (lines : List (List 
       }
 
 module _ (controller : Controller Banks meaning) (kept i o : List ℕ) (replaying : Replaying controller kept i o) where
-  bytes_more : (b : ℕ) → i ++ (b ∷ []) ≡ replaying.text ++ (10 ∷ (replaying.events ++ (b ∷ [])))
-  bytes_more b = ap (λ xs. xs ++ (b ∷ [])) replaying.bytes ∙ append_assoc replaying.text (10 ∷ replaying.events) (b ∷ [])
+  pub bytes_more : (bytes : List ℕ) → i ++ bytes ≡ replaying.text ++ (10 ∷ (replaying.events ++ bytes))
+  bytes_more bytes = ap (λ xs. xs ++ bytes) replaying.bytes ∙ append_assoc replaying.text (10 ∷ replaying.events) bytes
 
-  -- a byte of a line
-  event_keeps : (front : List ℕ) (b : ℕ) → eqb b 10 ≡ false → front ≡ take 16 (replaying.line ++ (b ∷ [])) → Replaying controller front (i ++ (b ∷ [])) (o ++ [])
-  event_keeps front b plain held = record {
+  -- bytes of a line
+  abbrev pub event_keeps : (front bytes : List ℕ) → Plain bytes → front ≡ take 16 (kept ++ bytes) → Replaying controller front (i ++ bytes) (o ++ [])
+  event_keeps front bytes plain held = record {
     text = replaying.text;
     contents = replaying.contents;
-    events = replaying.events ++ (b ∷ []);
+    events = replaying.events ++ bytes;
     lines = replaying.lines;
-    line = replaying.line ++ (b ∷ []);
-    bytes = bytes_more b;
+    line = replaying.line ++ bytes;
+    bytes = bytes_more bytes;
     found = replaying.found;
     accepted = replaying.accepted;
-    cut = λ more. ap lines_of (append_assoc replaying.events (b ∷ []) more) ∙ (replaying.cut (b ∷ more) ∙ ap (λ xs. replaying.lines ++ lines_of xs) (sym (append_assoc replaying.line (b ∷ []) more)));
-    plain = plain_push replaying.line b replaying.plain plain;
-    held = held;
+    cut = λ more. ap lines_of (append_assoc replaying.events bytes more) ∙ (replaying.cut (bytes ++ more) ∙ ap (λ xs. replaying.lines ++ lines_of xs) (sym (append_assoc replaying.line bytes more)));
+    plain = plain_append replaying.line bytes replaying.plain plain;
+    held = held ∙ (ap (λ xs. take 16 (xs ++ bytes)) replaying.held ∙ front_more replaying.line bytes);
     plays = subst (λ x. Plays replaying.contents controller replaying.lines x) (sym (append-nil o)) replaying.plays;
   }
 
-  -- the byte is kept, or the line is too long already
-  event_grows : (b : ℕ) → eqb b 10 ≡ false → length kept + 1 ≤ 16 → Replaying controller (kept ++ (b ∷ [])) (i ++ (b ∷ [])) (o ++ [])
-  event_grows b plain few =
-      event_keeps (kept ++ (b ∷ [])) b plain (ap (λ xs. xs ++ (b ∷ [])) replaying.held ∙ front_grows replaying.line b (omega (arith, ap length replaying.held)))
-
-  event_stays : (b : ℕ) → eqb b 10 ≡ false → 16 < length kept + 1 → Replaying controller kept (i ++ (b ∷ [])) (o ++ [])
-  event_stays b plain full =
-      event_keeps kept b plain (replaying.held ∙ front_stays replaying.line b (omega (arith, ap length replaying.held)))
-
-  pub event_pushed : (b : ℕ) (done : Result (Unit {0}) Full) (front : List ℕ) → eqb b 10 ≡ false → Appends 16 kept (b ∷ []) done front → Replaying controller front (i ++ (b ∷ [])) (o ++ [])
-  event_pushed b (Ok done) front plain (room, e) = subst (λ x. Replaying controller x (i ++ (b ∷ [])) (o ++ [])) (sym e) (event_grows b plain (has_room 16 kept (b ∷ []) room))
-  event_pushed b (Err full) front plain (room, e) = subst (λ x. Replaying controller x (i ++ (b ∷ [])) (o ++ [])) (sym e) (event_stays b plain (lacks_room 16 kept (b ∷ []) 23 room))
-
-  -- a newline
-  pub event_line : (after : Controller Banks meaning) (printed : List ℕ) (e : Result Event Refusal) → ReadsEvent (kept ++ (10 ∷ [])) e → LineDone controller e printed after → Replaying after [] (i ++ (10 ∷ [])) (o ++ printed)
-  event_line after printed e reads does =
+  -- a newline, behind a line that reads as some bytes do
+  event_newline : (after : Controller Banks meaning) (printed read : List ℕ) (e : Result Event Refusal) → read_event read ≡ read_event (replaying.line ++ (10 ∷ [])) → ReadsEvent read e → LineDone controller e printed after → Replaying after [] (i ++ (10 ∷ [])) (o ++ printed)
+  event_newline after printed read e same reads does =
       let line : List ℕ = replaying.line ++ (10 ∷ []) in
-      let read : read_event (kept ++ (10 ∷ [])) ≡ read_event line = ap (λ xs. read_event (xs ++ (10 ∷ []))) replaying.held ∙ reads_front replaying.line in
-      let on = plays_more replaying.contents controller after replaying.lines o replaying.plays line printed e (reads_same (kept ++ (10 ∷ [])) line read e reads) does in
+      let on = plays_more replaying.contents controller after replaying.lines o replaying.plays line printed e (reads_same read line same e reads) does in
       record {
         text = replaying.text;
         contents = replaying.contents;
         events = replaying.events ++ (10 ∷ []);
         lines = replaying.lines ++ (line ∷ []);
         line = [];
-        bytes = bytes_more 10;
+        bytes = bytes_more (10 ∷ []);
         found = replaying.found;
         accepted = replaying.accepted;
         cut = λ more. ap lines_of (append_assoc replaying.events (10 ∷ []) more) ∙ (replaying.cut (10 ∷ more) ∙ (ap (λ xs. replaying.lines ++ xs) (plain_line replaying.line more replaying.plain) ∙ sym (append_assoc replaying.lines (line ∷ []) (lines_of more))));
@@ -203,11 +198,20 @@ module _ (controller : Controller Banks meaning) (kept i o : List ℕ) (replayin
         plays = on;
       }
 
+-- the rest of a line
+pub event_line : (controller : Controller Banks meaning) (kept i o : List ℕ) → Replaying controller kept i o → (after : Controller Banks meaning) (printed rest : List ℕ) (e : Result Event Refusal) → IsLine rest → ReadsEvent (kept ++ rest) e → LineDone controller e printed after → Replaying after [] (i ++ rest) (o ++ printed)
+event_line controller kept i o replaying after printed rest e w reads does =
+    let front : List ℕ = w.front in
+    let on = event_keeps controller kept i o replaying (take 16 (kept ++ front)) front w.plain refl in
+    let same : read_event (kept ++ rest) ≡ read_event ((replaying.line ++ front) ++ (10 ∷ [])) = ap (λ xs. read_event (kept ++ xs)) w.text ∙ (ap (λ xs. read_event (xs ++ (front ++ (10 ∷ [])))) replaying.held ∙ (reads_front replaying.line front ∙ ap read_event (sym (append_assoc replaying.line front (10 ∷ []))))) in
+    let ended = event_newline controller (take 16 (kept ++ front)) (i ++ front) (o ++ []) on after printed (kept ++ rest) e same reads does in
+    subst (λ x. Replaying after [] (i ++ rest) (x ++ printed)) (append-nil o) (subst (λ x. Replaying after [] x ((o ++ []) ++ printed)) (append_assoc i front (10 ∷ []) ∙ ap (λ xs. i ++ xs) (sym w.text)) ended)
+
 -- BEHIND A REFUSED PLAN
 
-pub over_stays : (i o : List ℕ) (b : ℕ) → FedIn Over i o → FedIn Over (i ++ (b ∷ [])) (o ++ [])
-over_stays i o b fed =
-    λ more. subst (λ x. Printed x (o ++ [])) (sym (append_assoc i (b ∷ []) more)) (subst (λ x. Printed (i ++ (b ∷ more)) x) (sym (append-nil o)) (fed (b ∷ more)))
+pub over_stays : (i o bytes : List ℕ) → FedIn Over i o → FedIn Over (i ++ bytes) (o ++ [])
+over_stays i o bytes fed =
+    λ more. subst (λ x. Printed x (o ++ [])) (sym (append_assoc i bytes more)) (subst (λ x. Printed (i ++ (bytes ++ more)) x) (sym (append-nil o)) (fed (bytes ++ more)))
 
 -- PIECES
 

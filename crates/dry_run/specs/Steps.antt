@@ -1,5 +1,8 @@
 -- What one line does, and how much may be printed.
-use Rattle.std.specs.Prelude.{◌≡◌, ℕ, ◌+◌, ◌*◌, ◌≤◌, List, length, min, true, Some, Ok, Err, Result}
+use Prim.Native.Char.{code}
+use Rattle.std.specs.Prelude.{◌≡◌, ℕ, ◌+◌, ◌*◌, ◌≤◌, List, ◌++◌, length, min, true, false, Some, None}
+use Rattle.std.specs.Prelude.{Ok, Err, Option, Result, codes, ◌==◌}
+use Rattle.std.specs.List.{AllByRecursion}
 use Rattle.controller.specs.declared.controller.Controller.{Controller}
 use Rattle.event.specs.Answers.{calls_of, event_of, line_text, unreadable_text}
 use Rattle.event.specs.Lines.{event_text}
@@ -32,6 +35,20 @@ LineDone k (Ok e) printed next =
     × (event_of answer ≡ Some e)
     × (printed ≡ line_text answer)
     × RunsOn k (calls_of answer) next
+
+-- bytes with no newline, and a line: some of them and the newline
+abbrev pub Plain : List ℕ → Type 0
+Plain xs = AllByRecursion (λ b. (b == code "\n") ≡ false) xs
+
+pub record IsLine (line : List ℕ) : Type 0 where
+  pub front : List ℕ
+  pub plain : Plain front
+  pub text : line ≡ front ++ codes "\n"
+
+-- the first line, and what stands behind it, or no newline at all
+abbrev pub FirstLine : List ℕ → Option (List ℕ × List ℕ) → Type 0
+FirstLine bytes None = Plain bytes
+FirstLine bytes (Some p) = IsLine p.0 × (bytes ≡ p.0 ++ p.1)
 
 -- the size of an event's line, and of the shortest that is none
 abbrev pub line_size : Result Event Refusal → ℕ
@@ -71,8 +88,7 @@ Waits d at = WaitsIn d.phase at
 -- the plan is read, and a line begins behind its text
 abbrev pub AtLineIn : Phase → Type 0
 AtLineIn (Plan text begins) = begins ≡ true
-AtLineIn (Events controller line) = ⊥
-AtLineIn Over = ⊥
+AtLineIn _ = ⊥
 
 abbrev pub AtLine : DryRun → Type 0
 AtLine d = AtLineIn d.phase

@@ -1,10 +1,32 @@
-ghost use Rattle.std.specs.Prelude.{◌+◌, ◌*◌, ◌≤◌, length, Ok, Err};
+ghost use Rattle.std.specs.Prelude.{◌≡◌, ◌+◌, ◌*◌, ◌≤◌, length, None, Some, Ok, Err};
+ghost use Rattle.text.specs.Lines.{before_newline};
 ghost use Rattle.dry_run.specs.Fed.{Takes, Feeds, Ends, EndsIn};
+ghost use Rattle.dry_run.specs.Steps.{FirstLine};
 
 use crate::line::lay_unreadable;
 use crate::refused::lay_no_end;
 use crate::run::{DryRun, Phase};
 use text::refusal::Refusal;
+
+// How many bytes stand in front of the first newline.
+fn count_plain(s: &[u8]) -> usize
+    ensures counted { result ≡ before_newline s.now }
+    ensures within { result ≤ length s.now }
+{
+    s.iter().take_while(|b| **b != b'\n').count()
+}
+
+// The first line with its newline, and what stands behind it, if there is a newline.
+#[tactic(auto, using(crate::proofs::Bytes::first_line, crate::proofs::Bytes::no_line))]
+fn first_line(s: &[u8]) -> Option<(&[u8], &[u8])>
+    ensures { FirstLine s.now (elim result [ None ↦ None | Some p ↦ Some (p.0.now, p.1.now) ]) }
+{
+    let n = count_plain(s);
+    if n == s.len() {
+        return None;
+    }
+    Some(s.split_at(n + 1))
+}
 
 impl DryRun {
     // Takes a piece where there is room for what is printed of it.
@@ -14,10 +36,12 @@ impl DryRun {
         ensures within { result ≤ length out.old }
     {
         let mut at = 0;
-        for b in piece {
-            at = self.take_byte(*b, out, at);
+        let mut rest = piece;
+        while let Some((line, behind)) = first_line(rest) {
+            at = self.take_line(line, out, at);
+            rest = behind;
         }
-        at
+        self.take_open(rest, out, at)
     }
 
     /// Takes the next bytes of the input, however it is cut into pieces, writes what is printed of them at the start

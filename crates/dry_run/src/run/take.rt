@@ -1,9 +1,9 @@
-ghost use Rattle.std.specs.Prelude.{◌≡◌, ◌+◌, ◌*◌, ◌≤◌, true, [], ◌∷◌, ◌++◌, length};
+ghost use Rattle.std.specs.Prelude.{◌≡◌, ◌+◌, ◌*◌, ◌≤◌, true, [], ◌∷◌, ◌++◌, length, take};
 ghost use Rattle.byte_vec.specs.Bytes.{Appends};
 ghost use Rattle.event.specs.Lines.{ReadsEvent};
 ghost use Rattle.plan.specs.Of.{plan_contents};
 ghost use Rattle.dry_run.specs.Fed.{run_in, phase_behind, Laid, Takes};
-ghost use Rattle.dry_run.specs.Steps.{reserve, line_reserve, line_size, AtLine, Waits};
+ghost use Rattle.dry_run.specs.Steps.{reserve, line_reserve, line_size, AtLine, IsLine, Plain, Waits};
 ghost use Rattle.dry_run.specs.Made.{MadeFrom};
 ghost use Rattle.dry_run.specs.Said.{preamble_text, refused_text};
 ghost use Rattle.dry_run.specs.declared.run.Phase.TheVariants.{Plan as InPlan, Events as InEvents, Over as IsOver};
@@ -66,37 +66,57 @@ fn line_event(mut line: ByteVec<16>) -> Result<Call, Refusal>
     }
 }
 
-// A byte of the events.
-fn take_event_byte(
+// Keeps the front of a line: no event is longer than what is kept.
+#[tactic(auto, using(crate::proofs::Bytes::kept_more))]
+fn keep_front(line: &mut ByteVec<16>, bytes: &[u8])
+    ensures { line.new ≡ take 16 (line.old ++ bytes.now) }
+{
+    let room = 16 - line.len();
+    line.extend_from_slice(&bytes[..room.min(bytes.len())])
+        .unwrap();
+}
+
+// The call that a line is whose front was kept, if something was.
+fn read_line(kept: &ByteVec<16>, rest: &[u8]) -> Result<Call, Refusal>
+    requires { IsLine rest.now }
+    ensures reads { ReadsEvent (kept.now ++ rest.now) result }
+    ensures size { 10 * line_size result ≤ line_reserve kept.now + 10 * length rest.now }
+{
+    if kept.len() == 0 {
+        return read_call(rest);
+    }
+    let mut line = *kept;
+    keep_front(&mut line, &rest[..rest.len() - 1]);
+    line_event(line)
+}
+
+// A line of events, or the rest of one.
+fn take_event_line(
     controller: &mut Controller<Pair<Slots, ReadersWriters>>,
-    line: &mut ByteVec<16>,
-    b: u8,
+    kept: &mut ByteVec<16>,
+    rest: &[u8],
     out: &mut [u8],
     at: usize,
 ) -> usize
-    requires { at + line_reserve line.old + 10 ≤ length out.old }
-    ensures takes { Takes (run_in (InEvents controller.old line.old)) (run_in (InEvents controller.new line.new)) (b ∷ []) out.old at result out.new }
-    ensures few { result + line_reserve line.new ≤ at + line_reserve line.old + 10 }
+    requires { IsLine rest.now × (at + line_reserve kept.old + 10 * length rest.now ≤ length out.old) }
+    ensures takes { Takes (run_in (InEvents controller.old kept.old)) (run_in (InEvents controller.new kept.new)) rest.now out.old at result out.new }
+    ensures few { result + line_reserve kept.new ≤ at + line_reserve kept.old + 10 * length rest.now }
 {
-    if b != b'\n' {
-        // No event is longer than what is kept.
-        let _ = line.push(b);
-        return at;
-    }
-    let event = line_event(*line);
-    *line = ByteVec::new();
+    let event = read_line(kept, rest);
+    *kept = ByteVec::new();
     answer_line(controller, event, out, at)
 }
 
-// Keeps a byte of the plan's text, where it has fewer than 16,383: the newline of its empty line is
-// one more.
-fn keep(text: &mut ByteVec<16383>, b: u8) -> Result<(), Full>
-    ensures { Appends 16383 text.old (b ∷ []) result text.new }
+// Keeps bytes of the plan's text, where it then has fewer than 16,384: the newline of its empty line
+// is one more.
+fn keep(text: &mut ByteVec<16383>, bytes: &[u8]) -> Result<(), Full>
+    ensures { Appends 16383 text.old bytes.now result text.new }
 {
-    text.push(b)
+    text.extend_from_slice(bytes)
 }
 
-// A whole phase is made outside `take_byte`, where the room for one would be zeroed for each byte.
+// A whole phase is made outside of what takes a line, where the room for one would be zeroed for
+// each line.
 impl DryRun {
     // No empty line has come in time.
     fn refuse(&mut self, out: &mut [u8]) -> usize
@@ -130,27 +150,56 @@ impl DryRun {
         end
     }
 
-    // A byte of the input.
-    pub(crate) fn take_byte(&mut self, b: u8, out: &mut [u8], at: usize) -> usize
-        requires { Waits self.old at × (at + reserve self.old + 10 ≤ length out.old) }
-        ensures takes { Takes self.old self.new (b ∷ []) out.old at result out.new }
-        ensures few { result + reserve self.new ≤ at + reserve self.old + 10 }
+    // A line of the input, or the rest of one.
+    pub(crate) fn take_line(&mut self, line: &[u8], out: &mut [u8], at: usize) -> usize
+        requires { IsLine line.now × Waits self.old at × (at + reserve self.old + 10 * length line.now ≤ length out.old) }
+        ensures takes { Takes self.old self.new line.now out.old at result out.new }
+        ensures few { result + reserve self.new ≤ at + reserve self.old + 10 * length line.now }
         ensures waits { Waits self.new result }
     {
         match &mut self.phase {
             Phase::Plan { text, begins } => {
-                if b == b'\n' && *begins {
+                if line.len() == 1 && *begins {
                     return self.close_plan(out);
                 }
-                match keep(text, b) {
+                match keep(text, line) {
                     Ok(()) => {
-                        *begins = b == b'\n';
+                        *begins = true;
                         0
                     }
                     Err(Full) => self.refuse(out),
                 }
             }
-            Phase::Events { controller, line } => take_event_byte(controller, line, b, out, at),
+            Phase::Events {
+                controller,
+                line: kept,
+            } => take_event_line(controller, kept, line, out, at),
+            Phase::Over => at,
+        }
+    }
+
+    // Bytes of the input that end no line.
+    pub(crate) fn take_open(&mut self, bytes: &[u8], out: &mut [u8], at: usize) -> usize
+        requires { Plain bytes.now × Waits self.old at × (at + reserve self.old + 10 * length bytes.now ≤ length out.old) }
+        ensures takes { Takes self.old self.new bytes.now out.old at result out.new }
+        ensures few { result + reserve self.new ≤ at + reserve self.old + 10 * length bytes.now }
+        ensures waits { Waits self.new result }
+    {
+        if bytes.len() == 0 {
+            return at;
+        }
+        match &mut self.phase {
+            Phase::Plan { text, begins } => match keep(text, bytes) {
+                Ok(()) => {
+                    *begins = false;
+                    0
+                }
+                Err(Full) => self.refuse(out),
+            },
+            Phase::Events { line, .. } => {
+                keep_front(line, bytes);
+                at
+            }
             Phase::Over => at,
         }
     }
