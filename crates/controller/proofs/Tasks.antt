@@ -5,7 +5,7 @@ use Rattle.plan.specs.Contents.{Contents, length_at}
 use Rattle.rules.specs.Jobs.{Setup, Snapshot}
 use Rattle.rules.specs.Moves.{ticked_state, ticked_task}
 use Rattle.rules.specs.Questions.{late_in, late, late_task}
-use Rattle.rules.specs.States.{is_held_back, wanted_of, asked_state, issued_state, idle_task}
+use Rattle.rules.specs.States.{is_held_back, is_holding, wanted_of, asked_state, issued_state, idle_task}
 use Rattle.rules.specs.declared.answer.Asked.{Asked}
 use Rattle.rules.specs.declared.answer.Asked.TheVariants.{Hold, Wait, Back}
 use Rattle.rules.specs.declared.task.State.{State}
@@ -13,6 +13,8 @@ use Rattle.rules.specs.declared.task.State.TheVariants.{Idle, Going, HeldBack, W
 use Rattle.rules.specs.declared.task.Task.{Task}
 use Rattle.rules.specs.declared.task.Wanted.{Wanted}
 use Rattle.rules.proofs.Counts.{lowest_none}
+use Rattle.table.specs.Tasks.{has_issued}
+use Rattle.controller.specs.Ticks.{CanTick}
 use Rattle.table.specs.Rows.{is_within, keeps_length, KeepsLengths, tasks_in}
 use Rattle.table.proofs.Ranks.{tasks_past}
 use Rattle.table.proofs.Rows.{set_row}
@@ -100,12 +102,12 @@ lengths_ticked a t (Holding w) k e late kept = ap (keeps_length a.plan t (k.used
 pub lengths_all_ticked : (a : Setup) (s : Snapshot) (new : ℕ → Task) → KeepsLengths a.plan s.tasks → ((q : ℕ) → late a s q ≡ false) → ((q : ℕ) → new q ≡ ticked_task (s.tasks q)) → KeepsLengths a.plan new
 lengths_all_ticked a s new known on_time each q = ap (λ (k : Task). keeps_length a.plan q k.used k.state) (each q) ∙ lengths_ticked a q (s.tasks q).state (s.tasks q) refl (on_time q) (known q)
 
--- past the tasks all are idle, and stay so
-pub ticked_tasks : (n : ℕ) (rows new : List Task) → ((k : ℕ) → k < n → get_or new k idle_task ≡ ticked_task (get_or rows k idle_task)) → (q : ℕ) → tasks_in n new q ≡ ticked_task (tasks_in n rows q)
-ticked_tasks n rows new h q =
+-- each record is changed, and an idle one stays
+pub changed_tasks : (f : ℕ → Task → Task) (n : ℕ) (rows new : List Task) → ((q : ℕ) → f q idle_task ≡ idle_task) → ((k : ℕ) → k < n → get_or new k idle_task ≡ f k (get_or rows k idle_task)) → (q : ℕ) → tasks_in n new q ≡ f q (tasks_in n rows q)
+changed_tasks f n rows new idle h q =
     ⊎_elim
-    (λ (l : q < n). task_here n new q l ∙ (h q l ∙ ap ticked_task (sym (task_here n rows q l))))
-    (λ (far : n ≤ q). tasks_past n new q (inl far) ∙ ap ticked_task (sym (tasks_past n rows q (inl far))))
+    (λ (l : q < n). task_here n new q l ∙ (h q l ∙ ap (f q) (sym (task_here n rows q l))))
+    (λ (far : n ≤ q). tasks_past n new q (inl far) ∙ (sym (idle q) ∙ ap (f q) (sym (tasks_past n rows q (inl far)))))
     (cases_lt q n)
 
 -- where no task is late, none is past them either
@@ -115,3 +117,14 @@ on_time_all a s idle none q =
     (λ (l : q < a.tasks). lowest_none (late a s) a.tasks none q l)
     (λ (far : a.tasks ≤ q). ap (λ (k : Task). late_in a q k.used k.state) (idle q far))
     (cases_lt q a.tasks)
+
+-- a record with no issued request has no tick to count
+pub can_tick_idle : (k : Task) → has_issued k.state ≡ false → k.blocked ≤ 100000000 → CanTick k
+can_tick_idle k none few = record { used = λ e. absurd (false≢true (sym (holds k.state none) ∙ e)); blocked = few }
+  where
+    holds : (st : State) → has_issued st ≡ false → is_holding st ≡ false
+    holds Idle e = refl
+    holds Going e = refl
+    holds (HeldBack w) e = refl
+    holds (Waiting w) e = refl
+    holds (Holding w) e = e

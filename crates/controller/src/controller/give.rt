@@ -36,8 +36,8 @@ fn let_in_all<B: Bank>(bank: &B, resource: u32, tasks: usize, table: &mut Tasks)
     requires { (resource < (B.Bank.told bank.now).resources) × (tasks ≤ 64) }
     ensures { LetsIn tasks resource (B.Bank.active bank.now resource) table.old.records.rows table.new.records.rows }
 {
-    // by the number of a task, which is its place in the table
-    for t in 0..tasks {
+    // by the number of a task, which is its place in the table; who waits has an issued request
+    for t in 0..tasks.min(table.issued_end()) {
         table.store(t, let_in(bank, resource, t as u32, table.get(t)));
     }
 }

@@ -22,8 +22,9 @@ fn tick_all(tasks: usize, table: &mut Tasks)
     requires { (tasks ≤ 64) × ((q : ℕ) → q < tasks → CanTick (slice_index_or table.old.records.rows q idle_task)) }
     ensures { TicksAll tasks table.old.records.rows table.new.records.rows }
 {
-    // by the number of a task, which is its place in the table
-    for t in 0..tasks {
+    // by the number of a task, which is its place in the table; a record with no issued request
+    // stays as it is
+    for t in 0..tasks.min(table.issued_end()) {
         table.store(t, ticked(table.get(t)));
     }
 }
@@ -48,8 +49,8 @@ impl<B: Bank> Controller<B> {
         ensures late { result ≡ late_task (setup_of B.Bank self.now) (snapshot_of B.Bank self.now) }
         ensures ticks { result ≡ None → (q : ℕ) → q < self.now.tasks → CanTick (slice_index_or self.now.table.records.rows q idle_task) }
     {
-        // by the number of a task, which is its place in the table
-        for t in 0..self.tasks {
+        // by the number of a task, which is its place in the table; who holds has an issued request
+        for t in 0..self.tasks.min(self.table.issued_end()) {
             if self.is_late(t) {
                 return Some(t as u32);
             }
