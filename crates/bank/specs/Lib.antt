@@ -1,3 +1,4 @@
+pub mod Exact
 pub mod Limits
 pub mod Lists
 pub mod Meaning

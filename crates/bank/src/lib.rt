@@ -11,3 +11,5 @@ pub mod place;
 pub mod refusal;
 /// Requests and their modes.
 pub mod request;
+/// How much a bank has room for.
+pub mod size;

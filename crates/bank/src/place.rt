@@ -1,6 +1,7 @@
 ghost use Rattle.bank.specs.Questions.{IsIndex, IsParty};
 
 use crate::refusal::Refusal;
+use crate::size::PARTIES;
 
 /// The place of a resource among so many, if it exists.
 pub fn index(resource: u32, count: u32) -> Result<usize, Refusal>
@@ -17,7 +18,7 @@ pub fn index(resource: u32, count: u32) -> Result<usize, Refusal>
 pub fn check_party(party: u32) -> Result<(), Refusal>
     ensures { IsParty party result }
 {
-    if party >= 64 {
+    if party >= PARTIES as u32 {
         return Err(Refusal::NoParty);
     }
     Ok(())

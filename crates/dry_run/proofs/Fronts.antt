@@ -11,9 +11,8 @@ use Rattle.plan.specs.Contents.{Contents}
 use Rattle.plan_text.specs.Texts.{Verdict}
 use Rattle.rules.specs.Histories.{History}
 use Rattle.text.specs.Lines.{lines_of}
-use Rattle.dry_run.specs.Banks.{Banks}
+use Rattle.dry_run.specs.Banks.{PlanBanks, meaning}
 use Rattle.dry_run.specs.Fed.{FedIn, Fed, Laid}
-use Rattle.dry_run.specs.Made.{meaning}
 use Rattle.dry_run.specs.Played.{Has, Played, PlayedInPart}
 use Rattle.dry_run.specs.Plays.{Replays, none, unreadable, answered, Plays, PrintedBy, Printed}
 use Rattle.dry_run.specs.Said.{part_verdict, verdict, behind_plan, preamble_text}
@@ -48,14 +47,14 @@ last_of [] = inl refl
 last_of (x ∷ xs) = ⊎_elim (λ e. inr ([], x, ap (λ zs. x ∷ zs) e)) (λ (ys, y, e). inr (x ∷ ys, y, ap (λ zs. x ∷ zs) e)) (last_of xs)
 
 -- a run up to some of the lines
-record Upto (first : Controller Banks meaning) (lines : List (List ℕ)) (out : List ℕ) : Type 0 where
+record Upto (first : Controller PlanBanks meaning) (lines : List (List ℕ)) (out : List ℕ) : Type 0 where
   pub history : History
-  pub stands : Controller Banks meaning
+  pub stands : Controller PlanBanks meaning
   pub printed : List ℕ
   pub replays : Replays first lines history stands printed
   pub front : Front printed out
 
-all_lines : (first : Controller Banks meaning) (all lines more : List (List ℕ)) (h : History) (k : Controller Banks meaning) (out : List ℕ) → Replays first all h k out → all ≡ lines ++ more → more ≡ [] → Upto first lines out
+all_lines : (first : Controller PlanBanks meaning) (all lines more : List (List ℕ)) (h : History) (k : Controller PlanBanks meaning) (out : List ℕ) → Replays first all h k out → all ≡ lines ++ more → more ≡ [] → Upto first lines out
 all_lines first all lines more h k out r e empty =
     record {
       history = h;
@@ -65,7 +64,7 @@ all_lines first all lines more h k out r e empty =
       front = ([], sym (append-nil out));
     }
 
-longer : (first : Controller Banks meaning) (lines : List (List ℕ)) (out more : List ℕ) → Upto first lines out → Upto first lines (out ++ more)
+longer : (first : Controller PlanBanks meaning) (lines : List (List ℕ)) (out more : List ℕ) → Upto first lines out → Upto first lines (out ++ more)
 longer first lines out more u =
     record { history = u.history; stands = u.stands; printed = u.printed; replays = u.replays; front = front_trans u.printed out (out ++ more) u.front (more, refl) }
 
@@ -73,7 +72,7 @@ one_less : (all lines more less : List (List ℕ)) (line last : List ℕ) → al
 one_less all lines more less line last e f =
     (snoc_same all (lines ++ less) line last (e ∙ (ap (λ ms. lines ++ ms) f ∙ sym (append_assoc lines less (last ∷ []))))).0
 
-upto : (first : Controller Banks meaning) (all lines more : List (List ℕ)) (h : History) (k : Controller Banks meaning) (out : List ℕ) → Replays first all h k out → all ≡ lines ++ more → Upto first lines out
+upto : (first : Controller PlanBanks meaning) (all lines more : List (List ℕ)) (h : History) (k : Controller PlanBanks meaning) (out : List ℕ) → Replays first all h k out → all ≡ lines ++ more → Upto first lines out
 upto first _ lines more _ _ _ none e =
     ⊎_elim
     (λ (empty : more ≡ []). all_lines first [] lines more _ _ _ none e empty)
@@ -91,7 +90,7 @@ upto first _ lines more _ _ _ (answered {lines = all} {h = h} {k = k} {out = out
     (last_of more)
 
 -- two runs of one plan, one of them over more lines
-front_plays : (c : Contents) (k j : Controller Banks meaning) (lines more : List (List ℕ)) (out whole : List ℕ) → Plays c k lines out → Plays c j (lines ++ more) whole → Front out whole
+front_plays : (c : Contents) (k j : Controller PlanBanks meaning) (lines more : List (List ℕ)) (out whole : List ℕ) → Plays c k lines out → Plays c j (lines ++ more) whole → Front out whole
 front_plays c k j lines more out whole p q =
     let u = upto q.begins (lines ++ more) lines more q.history j q.answers q.replays refl in
     let same : u.printed ≡ p.answers = (replays_same c q.begins p.begins (starts_same c q.begins p.begins q.controller p.controller) lines lines u.history p.history u.stands k u.printed p.answers u.replays p.replays refl).1 in
@@ -100,7 +99,7 @@ front_plays c k j lines more out whole p q =
 
 -- THE INPUT
 
-front_accepted : (v : Verdict) (c : Contents) (input out whole : List ℕ) (k : Controller Banks meaning) (lines more : List (List ℕ)) → v ≡ Ok c → lines_of (behind_plan input) ≡ lines ++ more → Plays c k lines out → PrintedBy v input whole → Front out whole
+front_accepted : (v : Verdict) (c : Contents) (input out whole : List ℕ) (k : Controller PlanBanks meaning) (lines more : List (List ℕ)) → v ≡ Ok c → lines_of (behind_plan input) ≡ lines ++ more → Plays c k lines out → PrintedBy v input whole → Front out whole
 front_accepted v c input out whole k lines more e f p q =
     let (j, plays) = subst (λ w. PrintedBy w input whole) e q in
     front_plays c k j lines more out whole p (subst (λ ls. Plays c j ls whole) f plays)

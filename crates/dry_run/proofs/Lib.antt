@@ -1,11 +1,9 @@
 pub mod Bytes
 pub mod Fits
 pub mod Fronts
-pub mod Planned
 pub mod Printed
 pub mod SameAnswers
 pub mod SameBanks
 pub mod SameCalls
 pub mod SameRuns
-pub mod SameTold
 pub mod Steps

@@ -22,12 +22,11 @@ use Rattle.rules.specs.declared.event.Event.{Event}
 use Rattle.rules.specs.declared.event.Event.TheVariants.{Accepted, Refused}
 use Rattle.rules.specs.declared.refusal.Refusal.{Refusal}
 use Rattle.text.specs.Questions.{first_no}
-use Rattle.dry_run.specs.Banks.{Banks}
-use Rattle.dry_run.specs.Made.{meaning}
+use Rattle.dry_run.specs.Banks.{PlanBanks, meaning}
 use Rattle.dry_run.proofs.SameAnswers.{same_refused_text, refused_number, refused_by_bank}
-use Rattle.dry_run.proofs.SameBanks.{SameBanks, same_enter, same_leave}
+use Rattle.dry_run.proofs.SameBanks.{SameBanks, banks_exact}
 
-kept : (b d u v : Banks) → SameBanks b d → u ≡ b → v ≡ d → SameBanks u v
+kept : (b d u v : PlanBanks) → SameBanks b d → u ≡ b → v ≡ d → SameBanks u v
 kept b d u v e x y = subst (λ s. SameBanks s v) (sym x) (subst (SameBanks b) (sym y) e)
 
 module _ (a : Setup) (s : Snapshot) where
@@ -35,14 +34,14 @@ module _ (a : Setup) (s : Snapshot) where
   free_next : (o : Option ℕ) (i : Option Issued) (new : Lists) → IssuesNext a s o i new → first_no (next_questions a s o) ≡ None
   free_next None i new p = refl
   free_next (Some w) None new p = absurd p
-  free_next (Some w) (Some i) new p = p.1.0
+  free_next (Some w) (Some i) new p = p.1.asked
 
   granted : (x : Acceptance) (new : Lists) → Gives a s x new → first_no (bank_questions a s (call_of x)) ≡ None
   granted (Release t n) new p = refl
-  granted (Ask t r m Hold) new p = rw p.0 p.1.0
-  granted (Ask t r m Wait) new p = rw p.0 p.1.0
+  granted (Ask t r m Hold) new p = rw p.0 p.1.asked
+  granted (Ask t r m Wait) new p = rw p.0 p.1.asked
   granted (Ask t r m Back) new p = rw p.0 refl
-  granted (Give t n) new p = p.1.0
+  granted (Give t n) new p = p.1.asked
   granted (Finish t f) new p = free_next (next_issued a s t) f.issued new p.1
   granted (Tick n) new p = refl
 
@@ -56,14 +55,14 @@ module _ (a : Setup) (s : Snapshot) where
       passed : first_no (questions a s call) ≡ None
       passed = subst (λ c. first_no (questions a s c) ≡ None) e p.passed
 
-module _ (a : Setup) (s : Snapshot) (b d u v : Banks) (same : SameBanks b d) (ls ms : Lists) where
+module _ (a : Setup) (s : Snapshot) (b d u v : PlanBanks) (same : SameBanks b d) (ls ms : Lists) where
   -- the bank's own rules say whether a request holds
   ask_same : (t r : ℕ) (m : Mode) (x y : Asked) → Gives a s (Ask t r m x) ls → Gives a s (Ask t r m y) ms → BankChanges meaning s (Accepted (Ask t r m x)) b u → BankChanges meaning s (Accepted (Ask t r m y)) d v → (x ≡ y) × SameBanks u v
-  ask_same t r m Hold Hold p q c e = (refl, (same_enter r t b d same m true true u v c e).1)
-  ask_same t r m Wait Wait p q c e = (refl, (same_enter r t b d same m false false u v c e).1)
+  ask_same t r m Hold Hold p q c e = (refl, (banks_exact.enter r t m true true b d u v same c e).1)
+  ask_same t r m Wait Wait p q c e = (refl, (banks_exact.enter r t m false false b d u v same c e).1)
   ask_same t r m Back Back p q c e = (refl, kept b d u v same c e)
-  ask_same t r m Hold Wait p q c e = absurd (true≢false (same_enter r t b d same m true false u v c e).0)
-  ask_same t r m Wait Hold p q c e = absurd (true≢false (sym (same_enter r t b d same m false true u v c e).0))
+  ask_same t r m Hold Wait p q c e = absurd (true≢false (banks_exact.enter r t m true false b d u v same c e).0)
+  ask_same t r m Wait Hold p q c e = absurd (true≢false (sym (banks_exact.enter r t m false true b d u v same c e).0))
   ask_same t r m Back _ p q c e = absurd (true≢false (sym q.0 ∙ p.0))
   ask_same t r m _ Back p q c e = absurd (true≢false (sym p.0 ∙ q.0))
 
@@ -76,7 +75,7 @@ module _ (a : Setup) (s : Snapshot) (b d u v : Banks) (same : SameBanks b d) (ls
   issued_same (Some w) (Some i) (Some j) p q c e =
       let task : i.task ≡ j.task = p.0 ∙ sym q.0 in
       let moved = subst (λ k. meaning.entered (wanted_by s k).resource k (wanted_by s k).mode (Ok j.holds) d v) (sym task) e in
-      let h = same_enter (wanted_by s i.task).resource i.task b d same (wanted_by s i.task).mode i.holds j.holds u v c moved in
+      let h = banks_exact.enter (wanted_by s i.task).resource i.task (wanted_by s i.task).mode i.holds j.holds b d u v same c moved in
       (ap (λ k. Some (issue k i.holds)) task ∙ ap (λ k. Some (issue j.task k)) h.0, h.1)
     where
       issue : ℕ → Bool → Issued
@@ -99,7 +98,7 @@ module _ (a : Setup) (s : Snapshot) (b d u v : Banks) (same : SameBanks b d) (ls
   accepted_same (Give t n) (Give i k) f p q c e =
       let task : t ≡ i = cc in
       let used : n ≡ k = p.0 ∙ ap (λ z. (s.tasks z).used) task ∙ sym q.0 in
-      (cc, same_leave (wanted_by s t).resource t b d same u v c (subst (λ z. meaning.left (wanted_by s z).resource z (Ok tt) d v) (sym task) e))
+      (cc, banks_exact.leave (wanted_by s t).resource t b d u v same c (subst (λ z. meaning.left (wanted_by s z).resource z (Ok tt) d v) (sym task) e))
   accepted_same (Finish t g) (Finish i k) f p q c e =
       let task : t ≡ i = cc in
       let one = issued_same (next_issued a s t) g.issued k.issued p.1 (subst (λ z. IssuesNext a s (next_issued a s z) k.issued ms) (sym task) q.1) c e in
@@ -118,7 +117,7 @@ pub record SameCall (s : Snapshot) (x y : Event) : Type 0 where
   pub tick : is_tick x ≡ is_tick y
   pub release : is_release x ≡ is_release y
 
-module _ (a : Setup) (s : Snapshot) (b d u v : Banks) (same : SameBanks b d) (ls ms : Lists) where
+module _ (a : Setup) (s : Snapshot) (b d u v : PlanBanks) (same : SameBanks b d) (ls ms : Lists) where
   abbrev pub Both : Event → Event → Type 0
   Both x y = Answered a s x ls → Answered a s y ms → BankChanges meaning s x b u → BankChanges meaning s y d v → SameCall s x y × SameBanks u v
 

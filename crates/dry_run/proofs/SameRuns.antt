@@ -20,15 +20,15 @@ use Rattle.rules.specs.declared.task.Task.{Task}
 use Rattle.text.specs.Questions.{ask, first_no}
 use Rattle.text.specs.Refusals.{number}
 use Rattle.text.specs.declared.refusal.Refusal.{Refusal}
-use Rattle.dry_run.specs.Banks.{Banks}
-use Rattle.dry_run.specs.Made.{meaning, setup, snapshot, MadeFrom, Step}
+use Rattle.dry_run.specs.Banks.{PlanBanks, meaning}
+use Rattle.dry_run.specs.Made.{setup, snapshot, MadeFrom, Step}
 use Rattle.dry_run.specs.Plays.{Replays, StepsBy, none, unreadable, answered, PrintedBy, Printed}
 use Rattle.dry_run.specs.Said.{preamble_text, verdict}
-use Rattle.dry_run.proofs.SameBanks.{SameBanks, same_active, same_made, same_told}
+use Rattle.dry_run.proofs.SameBanks.{SameBanks, banks_exact, same_made}
 use Rattle.dry_run.proofs.SameCalls.{call_same}
 
 -- two controllers of one plan that stand the same
-pub record Same (k j : Controller Banks meaning) : Type 0 where
+pub record Same (k j : Controller PlanBanks meaning) : Type 0 where
   pub set_up : setup k ≡ setup j
   pub stands : snapshot k ≡ snapshot j
   pub banks : SameBanks k.bank j.bank
@@ -46,14 +46,14 @@ stands_same s t tasks lists clock releases =
 abbrev made : Contents → Told → ℕ → ℕ → Setup
 made plan told tasks resources = record { plan = plan; told = told; tasks = tasks; resources = resources }
 
-pub starts_same : (c : Contents) (k j : Controller Banks meaning) → MadeFrom c k → MadeFrom c j → Same k j
+pub starts_same : (c : Contents) (k j : Controller PlanBanks meaning) → MadeFrom c k → MadeFrom c j → Same k j
 starts_same c k j x y =
     let banks = same_made c k.bank j.bank x.bank_of y.bank_of in
-    let told = same_told c k.bank j.bank x.bank_of y.bank_of in
+    let told = banks_exact.tells _ _ banks in
     let plan = x.plan ∙ sym y.plan in
     record {
       set_up = setups (setup k) (setup j) plan told (x.fitting.tasks ∙ (ap (λ (p : Contents). length p.tasks) plan ∙ sym y.fitting.tasks)) (x.fitting.resources ∙ (ap resource_count plan ∙ sym y.fitting.resources));
-      stands = stands_same (snapshot k) (snapshot j) (λ q. x.begins.idle q ∙ sym (y.begins.idle q)) (same_active k.bank j.bank banks) (x.begins.clock ∙ sym y.begins.clock) (x.begins.releases ∙ sym y.begins.releases);
+      stands = stands_same (snapshot k) (snapshot j) (λ q. x.begins.idle q ∙ sym (y.begins.idle q)) (banks_exact.lists _ _ banks) (x.begins.clock ∙ sym y.begins.clock) (x.begins.releases ∙ sym y.begins.releases);
       banks = banks;
     }
   where
@@ -63,12 +63,12 @@ starts_same c k j x y =
 
 -- A STEP
 
-step_same : (k j : Controller Banks meaning) → Same k j → (e : Event) (x y : Call) → event_of x ≡ Some e → event_of y ≡ Some e → (p q : Controller Banks meaning) → Step k x p → Step j y q → Same p q × (line_text x ≡ line_text y)
+step_same : (k j : Controller PlanBanks meaning) → Same k j → (e : Event) (x y : Call) → event_of x ≡ Some e → event_of y ≡ Some e → (p q : Controller PlanBanks meaning) → Step k x p → Step j y q → Same p q × (line_text x ≡ line_text y)
 step_same k j same e x y f g p q a b =
     let does : Does (setup k) (snapshot k) y (snapshot q) = subst (λ v. Does v (snapshot k) y (snapshot q)) (sym same.set_up) (subst (λ s. Does (setup j) s y (snapshot q)) (sym same.stands) b.does) in
     let banks : BankChanges meaning (snapshot k) y j.bank q.bank = subst (λ s. BankChanges meaning s y j.bank q.bank) (sym same.stands) b.banks in
     let both = call_same (setup k) (snapshot k) k.bank j.bank p.bank q.bank same.banks (snapshot p).lists (snapshot q).lists e x y f g a.does.answered does.answered a.banks banks in
-    let lists = same_active p.bank q.bank both.1 in (
+    let lists = banks_exact.lists _ _ both.1 in (
       record {
         set_up = a.same ∙ (same.set_up ∙ sym b.same);
         stands =
@@ -95,7 +95,7 @@ SameTexts [] [] = Unit {0}
 SameTexts (x ∷ xs) (y ∷ ys) = (line_text x ≡ line_text y) × SameTexts xs ys
 SameTexts _ _ = ⊥
 
-steps_same : (xs ys : List Call) (k j : Controller Banks meaning) → Same k j → SameAsked xs ys → (h i g f : History) (p q : Controller Banks meaning) → StepsBy xs k h p g → StepsBy ys j i q f → Same p q × SameTexts xs ys
+steps_same : (xs ys : List Call) (k j : Controller PlanBanks meaning) → Same k j → SameAsked xs ys → (h i g f : History) (p q : Controller PlanBanks meaning) → StepsBy xs k h p g → StepsBy ys j i q f → Same p q × SameTexts xs ys
 steps_same [] [] k j same asked h i g f p q a b = (subst (λ x. Same x q) (sym a.0) (subst (Same k) (sym b.0) same), tt)
 steps_same [] (y ∷ ys) k j same asked h i g f p q a b = absurd asked
 steps_same (x ∷ xs) [] k j same asked h i g f p q a b = absurd asked
@@ -129,7 +129,7 @@ unreadable_same a b e = cc
 event_read : (line : List ℕ) (event : Event) (why : Refusal) → read_event line ≡ Some event → first_no (event_questions line) ≡ Some (number why) → ⊥
 event_read line event why r u = none-some (number why) (sym (ap (λ o. first_no (ask 21 (is_some o) ∷ [])) r) ∙ u)
 
-pub replays_same : (c : Contents) (f g : Controller Banks meaning) → Same f g → (ls ms : List (List ℕ)) (h i : History) (k j : Controller Banks meaning) (o q : List ℕ) → Replays f ls h k o → Replays g ms i j q → ls ≡ ms → Same k j × (o ≡ q)
+pub replays_same : (c : Contents) (f g : Controller PlanBanks meaning) → Same f g → (ls ms : List (List ℕ)) (h i : History) (k j : Controller PlanBanks meaning) (o q : List ℕ) → Replays f ls h k o → Replays g ms i j q → ls ≡ ms → Same k j × (o ≡ q)
 replays_same c f g same _ _ _ _ _ _ _ _ none none e = (same, refl)
 replays_same c f g same _ _ _ _ _ _ _ _ none (unreadable {lines} line why r u) e = absurd (omega (arith, length_push lines line, ap length e))
 replays_same c f g same _ _ _ _ _ _ _ _ none (answered {lines} line event answer r u of steps) e = absurd (omega (arith, length_push lines line, ap length e))

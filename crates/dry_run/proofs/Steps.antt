@@ -2,7 +2,7 @@
 use Rattle.std.proofs.Common.{◌≡◌, ℕ, ◌+◌, ◌-◌, ◌*◌, ◌<◌, ◌≤◌, Bool, true, List, [], ◌∷◌, ◌++◌, length, take, drop, Some, None, Ok, Err, Result, unwrap_or, is_some, sym, refl, ap, ◌∙◌, subst, append_assoc, append-nil, add-zero, arith, length-append}
 use Rattle.std.proofs.lemmas.List.{length_push, length-take, drop_at, take_at}
 use Rattle.controller.specs.declared.controller.Controller.{Controller}
-use Rattle.dry_run.specs.Banks.{Banks}
+use Rattle.dry_run.specs.Banks.{PlanBanks, meaning}
 use Rattle.event.specs.Answers.{unreadable_text}
 use Rattle.event.specs.Lines.{read_event, event_questions, ReadsEvent}
 use Rattle.rules.specs.declared.call.Call.{Call as Event}
@@ -19,7 +19,7 @@ use Rattle.text.specs.declared.refusal.Refusal.TheVariants.{NotEvent}
 use Rattle.text.proofs.Writes.{overlay_none, overlay_more}
 use Rattle.dry_run.specs.Fed.{line_begins, Planning, Replaying, FedIn, Fed, Laid, Takes, Ends}
 use Rattle.dry_run.specs.Steps.{line_reserve, IsLine, LineDone, Plain, RunsOn}
-use Rattle.dry_run.specs.Made.{meaning, setup, snapshot, MadeFrom, Step}
+use Rattle.dry_run.specs.Made.{setup, snapshot, MadeFrom, Step}
 use Rattle.dry_run.specs.Plays.{Replays, none, unreadable, answered, Plays, PrintedBy, Printed}
 use Rattle.dry_run.specs.Said.{before_empty, plan_part, part_verdict, verdict, refused_text, preamble_text, behind_plan, said}
 use Rattle.dry_run.specs.declared.run.DryRun.{DryRun}
@@ -71,7 +71,7 @@ module _ (text i o : List ℕ) (planning : Planning text true i o) where
   plan_refused question line e =
       refused text true i o planning (10 ∷ []) question line (λ more. ap verdict (append_assoc i (10 ∷ []) more) ∙ (ap part_verdict (found more) ∙ (ap read_text (sym planning.held) ∙ e)))
 
-  pub plan_accepted : (c : Contents) (controller : Controller Banks meaning) → read_text text ≡ Ok c → MadeFrom c controller → Replaying controller [] (i ++ (10 ∷ [])) (o ++ preamble_text c)
+  pub plan_accepted : (c : Contents) (controller : Controller PlanBanks meaning) → read_text text ≡ Ok c → MadeFrom c controller → Replaying controller [] (i ++ (10 ∷ [])) (o ++ preamble_text c)
   plan_accepted c controller e m = record {
     text = i;
     contents = c;
@@ -106,7 +106,7 @@ reads_same a b e (Ok event) w = (sym (refuses_same a b e) ∙ w.0, sym e ∙ w.1
 reads_same a b e (Err why) w = sym (refuses_same a b e) ∙ w
 
 -- one call
-pub one_call : (k next : Controller Banks meaning) (call : Call) → Follows (setup k) (snapshot k) call (snapshot next) → Step k call next → RunsOn k (call ∷ []) next
+pub one_call : (k next : Controller PlanBanks meaning) (call : Call) → Follows (setup k) (snapshot k) call (snapshot next) → Step k call next → RunsOn k (call ∷ []) next
 one_call k next call follows step = λ h run. (
   called h call (snapshot next).lists,
   subst (λ x. LawfulRun x (snapshot next) (called h call (snapshot next).lists)) (sym step.same) (follows h run.runs),
@@ -129,7 +129,7 @@ module _ (kept rest : List ℕ) (w : IsLine rest) (line : List ℕ) (e : line �
   kept_reserve = omega (arith, some_rest, ap length front_taken, ap length e, length-take 16 (kept ++ take (length rest - 1) rest), length-append kept (take (length rest - 1) rest))
 
 -- a run goes on by one line
-module _ (c : Contents) (k next : Controller Banks meaning) (lines : List (List ℕ)) (o : List ℕ) (p : Plays c k lines o) (line printed : List ℕ) where
+module _ (c : Contents) (k next : Controller PlanBanks meaning) (lines : List (List ℕ)) (o : List ℕ) (p : Plays c k lines o) (line printed : List ℕ) where
   longer : o ++ printed ≡ preamble_text c ++ (p.answers ++ printed)
   longer = ap (λ xs. xs ++ printed) p.printed ∙ append_assoc (preamble_text c) p.answers printed
 
@@ -157,7 +157,7 @@ module _ (c : Contents) (k next : Controller Banks meaning) (lines : List (List 
         printed = longer;
       }
 
-module _ (controller : Controller Banks meaning) (kept i o : List ℕ) (replaying : Replaying controller kept i o) where
+module _ (controller : Controller PlanBanks meaning) (kept i o : List ℕ) (replaying : Replaying controller kept i o) where
   pub bytes_more : (bytes : List ℕ) → i ++ bytes ≡ replaying.text ++ (10 ∷ (replaying.events ++ bytes))
   bytes_more bytes = ap (λ xs. xs ++ bytes) replaying.bytes ∙ append_assoc replaying.text (10 ∷ replaying.events) bytes
 
@@ -179,7 +179,7 @@ module _ (controller : Controller Banks meaning) (kept i o : List ℕ) (replayin
   }
 
   -- a newline, behind a line that reads as some bytes do
-  event_newline : (after : Controller Banks meaning) (printed read : List ℕ) (e : Result Event Refusal) → read_event read ≡ read_event (replaying.line ++ (10 ∷ [])) → ReadsEvent read e → LineDone controller e printed after → Replaying after [] (i ++ (10 ∷ [])) (o ++ printed)
+  event_newline : (after : Controller PlanBanks meaning) (printed read : List ℕ) (e : Result Event Refusal) → read_event read ≡ read_event (replaying.line ++ (10 ∷ [])) → ReadsEvent read e → LineDone controller e printed after → Replaying after [] (i ++ (10 ∷ [])) (o ++ printed)
   event_newline after printed read e same reads does =
       let line : List ℕ = replaying.line ++ (10 ∷ []) in
       let on = plays_more replaying.contents controller after replaying.lines o replaying.plays line printed e (reads_same read line same e reads) does in
@@ -199,7 +199,7 @@ module _ (controller : Controller Banks meaning) (kept i o : List ℕ) (replayin
       }
 
 -- the rest of a line
-pub event_line : (controller : Controller Banks meaning) (kept i o : List ℕ) → Replaying controller kept i o → (after : Controller Banks meaning) (printed rest : List ℕ) (e : Result Event Refusal) → IsLine rest → ReadsEvent (kept ++ rest) e → LineDone controller e printed after → Replaying after [] (i ++ rest) (o ++ printed)
+pub event_line : (controller : Controller PlanBanks meaning) (kept i o : List ℕ) → Replaying controller kept i o → (after : Controller PlanBanks meaning) (printed rest : List ℕ) (e : Result Event Refusal) → IsLine rest → ReadsEvent (kept ++ rest) e → LineDone controller e printed after → Replaying after [] (i ++ rest) (o ++ printed)
 event_line controller kept i o replaying after printed rest e w reads does =
     let front : List ℕ = w.front in
     let on = event_keeps controller kept i o replaying (take 16 (kept ++ front)) front w.plain refl in
@@ -227,7 +227,7 @@ takes_more d e f p q old middle mid end new room x y =
 
 -- THE END
 
-no_lines : (first : Controller Banks meaning) (lines : List (List ℕ)) (h : History) (k : Controller Banks meaning) (out : List ℕ) → Replays first lines h k out → lines ≡ [] → out ≡ []
+no_lines : (first : Controller PlanBanks meaning) (lines : List (List ℕ)) (h : History) (k : Controller PlanBanks meaning) (out : List ℕ) → Replays first lines h k out → lines ≡ [] → out ≡ []
 no_lines first _ _ _ _ none e = refl
 no_lines first _ _ _ _ (unreadable {lines} line why r u) e = absurd (omega (arith, length_push lines line, ap length e))
 no_lines first _ _ _ _ (answered {lines} line event answer r u of steps) e = absurd (omega (arith, length_push lines line, ap length e))
@@ -246,7 +246,7 @@ pub end_plan : (text : List ℕ) (begun : Bool) (i o : List ℕ) → Planning te
 end_plan text begun i o p =
     subst (λ v. PrintedBy v i (o ++ refused_text 22 0)) (sym (part_short i p.few p.unended)) (ap (λ xs. xs ++ refused_text 22 0) p.nothing)
 
-module _ (controller : Controller Banks meaning) (kept i o : List ℕ) (r : Replaying controller kept i o) where
+module _ (controller : Controller PlanBanks meaning) (kept i o : List ℕ) (r : Replaying controller kept i o) where
   -- an input that goes on from the plan's empty line with these bytes
   pub part_of : (input behind : List ℕ) → input ≡ r.text ++ (10 ∷ behind) → plan_part input ≡ Some r.text
   part_of input behind e = ap plan_part e ∙ r.found behind

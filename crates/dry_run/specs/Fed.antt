@@ -3,7 +3,7 @@ use Prim.Native.Char.{code}
 use Rattle.std.specs.Prelude.{◌≡◌, ℕ, ◌+◌, ◌*◌, ◌<◌, Bool, true, false, List, [], ◌∷◌, ◌++◌, length, take, Some, None, Ok, Err, Option, Result, ◌==◌, nat_le}
 use Rattle.std.specs.List.{AllByRecursion}
 use Rattle.controller.specs.declared.controller.Controller.{Controller}
-use Rattle.dry_run.specs.Banks.{Banks}
+use Rattle.dry_run.specs.Banks.{PlanBanks, meaning}
 use Rattle.plan.specs.Contents.{Contents}
 use Rattle.plan_text.specs.Texts.{read_text}
 use Rattle.text.specs.Lines.{lines_of}
@@ -11,7 +11,6 @@ use Rattle.text.specs.Memory.{overlay}
 use Rattle.text.specs.Questions.{Question, ask, first_no}
 use Rattle.text.specs.Refusals.{number}
 use Rattle.text.specs.declared.refusal.Refusal.{Refusal}
-use Rattle.dry_run.specs.Made.{meaning}
 use Rattle.dry_run.specs.Plays.{Plays, Printed}
 use Rattle.dry_run.specs.Said.{before_empty, behind_plan, plan_part, said, verdict}
 use Rattle.dry_run.specs.declared.run.DryRun.{DryRun}
@@ -33,7 +32,7 @@ pub record Planning (text : List ℕ) (begun : Bool) (input out : List ℕ) : Ty
 
 -- the plan was accepted, and lines of events come behind it: the whole ones were answered, and the
 -- last one goes on
-pub record Replaying (controller : Controller Banks meaning) (kept input out : List ℕ) : Type 0 where
+pub record Replaying (controller : Controller PlanBanks meaning) (kept input out : List ℕ) : Type 0 where
   pub text : List ℕ
   pub contents : Contents
   pub events : List ℕ
@@ -61,7 +60,7 @@ abbrev pub run_in : Phase → DryRun
 run_in phase = record { phase = phase }
 
 -- what comes behind a plan: the events of its controller, or nothing where it was refused
-abbrev pub phase_behind : Option (Controller Banks meaning) → Phase
+abbrev pub phase_behind : Option (Controller PlanBanks meaning) → Phase
 phase_behind None = Over
 phase_behind (Some controller) = Events controller []
 

@@ -1,15 +1,12 @@
 -- What the program reads of its input, and what it prints.
-use Rattle.std.specs.Prelude.{ℕ, ◌+◌, Bool, true, cond, List, [], ◌∷◌, ◌++◌, length, take, drop, is_some, Some, None, Ok, Err, codes, decimal, Option, ◌==◌, slice_index, false}
+use Rattle.std.specs.Prelude.{ℕ, ◌+◌, Bool, true, false, cond, List, [], ◌∷◌, ◌++◌, length, take, drop, is_some, Some, None, Ok, Err, codes, decimal, Option, ◌==◌}
 use Rattle.std.specs.Option.{unwrap_or, option_map}
 use Prim.Native.Char.{code}
-use Rattle.bank.specs.Questions.{Told}
 use Rattle.limits.specs.Lines.{limits_text}
-use Rattle.pair.specs.Pairs.{pair_told}
-use Rattle.plan.specs.Contents.{Contents, processors}
+use Rattle.plan.specs.Contents.{Contents}
 use Rattle.plan_text.specs.Texts.{Verdict, decide, read_text}
-use Rattle.readers_writers.specs.Lines.{turn_limit as reader_writer_limit}
-use Rattle.slots.specs.Lines.{turn_limit as slot_limit}
 use Rattle.text.specs.Questions.{Question, ask, first_no}
+use Rattle.dry_run.specs.Banks.{plan_told}
 
 -- the bytes before the first empty line, if there is one: a newline where a line begins
 abbrev pub before_empty : Bool → List ℕ → Option (List ℕ)
@@ -41,16 +38,6 @@ verdict input = part_verdict (plan_part input)
 abbrev pub refused_text : ℕ → ℕ → List ℕ
 refused_text question line =
     codes "plan,no," ++ (decimal question ++ (code "," ∷ (decimal line ++ codes "\n")))
-
--- what the slots of a plan, its readers and writers, and the pair of both tell
-abbrev pub slots_told : Contents → Told
-slots_told c = record { resources = length c.slots; seats = processors c; slots = λ r. slice_index c.slots r; reads = λ _. false; limit = λ r _. slot_limit (processors c) (slice_index c.slots r) }
-
-abbrev pub readers_writers_told : Contents → Told
-readers_writers_told c = record { resources = c.reader_writers; seats = processors c; slots = λ _. 1; reads = λ _. true; limit = λ _ m. reader_writer_limit (processors c) m }
-
-abbrev pub plan_told : Contents → Told
-plan_told c = pair_told (slots_told c) (readers_writers_told c)
 
 -- the lines before those of the events: the wait limits of each resource
 abbrev pub preamble_text : Contents → List ℕ

@@ -12,23 +12,23 @@ use Rattle.rules.specs.Runs.{LawfulRun}
 use Rattle.rules.specs.declared.event.Event.{Event as Call}
 use Rattle.text.specs.declared.refusal.Refusal.{Refusal}
 use Rattle.dry_run.specs.Fed.{Laid}
-use Rattle.dry_run.specs.Banks.{Banks}
-use Rattle.dry_run.specs.Made.{meaning, setup, snapshot}
+use Rattle.dry_run.specs.Banks.{PlanBanks, meaning}
+use Rattle.dry_run.specs.Made.{setup, snapshot}
 use Rattle.dry_run.specs.Plays.{StepsBy}
 use Rattle.dry_run.specs.declared.run.DryRun.{DryRun}
 use Rattle.dry_run.specs.declared.run.Phase.{Phase}
 use Rattle.dry_run.specs.declared.run.Phase.TheVariants.{Plan, Events, Over}
 
 -- whatever history led here, with these calls more it is that of a run that keeps the law
-abbrev pub RunsOn : Controller Banks meaning → List Call → Controller Banks meaning → Type 0
+abbrev pub RunsOn : Controller PlanBanks meaning → List Call → Controller PlanBanks meaning → Type 0
 RunsOn k calls next =
     (h : History) → LawfulRun (setup k) (snapshot k) h
     → (g : History) × LawfulRun (setup next) (snapshot next) g × StepsBy calls k h next g
 
 -- a line that is an event is a row of calls, and is printed with its answer; another is printed
 -- with the number of its refusal, and nothing changes
-abbrev pub LineDone : Controller Banks meaning → Result Event Refusal → List ℕ →
-    Controller Banks meaning → Type 0
+abbrev pub LineDone : Controller PlanBanks meaning → Result Event Refusal → List ℕ →
+    Controller PlanBanks meaning → Type 0
 LineDone k (Err why) printed next = (printed ≡ unreadable_text why) × (next ≡ k)
 LineDone k (Ok e) printed next =
     (answer : Call)
@@ -56,7 +56,7 @@ line_size (Err why) = 1
 line_size (Ok e) = length (event_text e)
 
 -- a line was answered, and what is printed of it stands at a place, at most ten bytes for each of the line
-pub record LineTaken (c c' : Controller Banks meaning) (event : Result Event Refusal)
+pub record LineTaken (c c' : Controller PlanBanks meaning) (event : Result Event Refusal)
     (old : List ℕ) (at end : ℕ) (new : List ℕ) : Type 0 where
   pub printed : List ℕ
   pub laid : Laid old at printed end new

@@ -3,20 +3,18 @@ ghost use Rattle.event.specs.Answers.{call_of, calls_of, event_of, line_text, ev
 ghost use Rattle.dry_run.specs.Fed.{Laid};
 ghost use Rattle.dry_run.specs.Steps.{line_size, LineTaken, RunsOn};
 
+use crate::banks::PlanBanks;
 use byte_vec::byte_vec::ByteVec;
 use controller::controller::Controller;
 use event::answered::Answered;
-use pair::pair::Pair;
-use readers_writers::lines::ReadersWriters;
 use rules::call::Call;
-use slots::slots::Slots;
 use text::memory::write_bytes;
 use text::number::push_field;
 use text::refusal::Refusal;
 
 // Puts an event to the controller.
 #[tactic(auto, using(crate::proofs::Steps::one_call))]
-fn call(controller: &mut Controller<Pair<Slots, ReadersWriters>>, event: Call) -> Answered
+fn call(controller: &mut Controller<PlanBanks>, event: Call) -> Answered
     ensures event { event_of (call_of result) ≡ Some event }
     ensures runs { RunsOn controller.old (calls_of (call_of result)) controller.new }
 {
@@ -72,7 +70,7 @@ pub(crate) fn lay_unreadable(why: Refusal, out: &mut [u8], at: usize) -> usize
 // Answers the event that a line is, or its refusal where it is none, and lays what is printed of
 // it.
 pub(crate) fn answer_line(
-    controller: &mut Controller<Pair<Slots, ReadersWriters>>,
+    controller: &mut Controller<PlanBanks>,
     event: Result<Call, Refusal>,
     out: &mut [u8],
     at: usize,

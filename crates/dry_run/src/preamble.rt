@@ -4,19 +4,13 @@ ghost use Rattle.dry_run.specs.Banks.{BanksOf};
 ghost use Rattle.dry_run.specs.Fed.{Laid};
 ghost use Rattle.dry_run.specs.Said.{preamble_text};
 
+use crate::banks::PlanBanks;
 use limits::limits::write_limits;
-use pair::pair::Pair;
 use plan::plan::Plan;
-use readers_writers::lines::ReadersWriters;
-use slots::slots::Slots;
 
 // Lays the lines before those of the events at the start of memory, each kind by a call of its own,
 // and answers their size.
-pub(crate) fn lay_preamble(
-    plan: &Plan,
-    banks: &Pair<Slots, ReadersWriters>,
-    out: &mut [u8],
-) -> usize
+pub(crate) fn lay_preamble(plan: &Plan, banks: &PlanBanks, out: &mut [u8]) -> usize
     requires { BanksOf (plan_contents plan.now) banks.now × (1040 ≤ length out.old) }
     ensures laid { Laid out.old 0 (preamble_text (plan_contents plan.now)) result out.new }
     ensures few { result ≤ 1040 }

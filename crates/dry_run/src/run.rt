@@ -1,8 +1,6 @@
+use crate::banks::PlanBanks;
 use byte_vec::byte_vec::ByteVec;
 use controller::controller::Controller;
-use pair::pair::Pair;
-use readers_writers::lines::ReadersWriters;
-use slots::slots::Slots;
 
 /// What a dry run reads, with what is kept of it.
 #[derive(Debug, PartialEq, Eq, Drop)]
@@ -14,7 +12,7 @@ pub enum Phase {
     },
     /// The event lines behind it: the controller, and the line so far.
     Events {
-        controller: Controller<Pair<Slots, ReadersWriters>>,
+        controller: Controller<PlanBanks>,
         line: ByteVec<16>,
     },
     /// Nothing more: the plan was refused.

@@ -1,5 +1,5 @@
 -- A slot resource worked by calls, from its parties alone.
-use Rattle.std.proofs.Common.{◌≡◌, ℕ, Bool, false, List, [], ◌∷◌, ◌++◌, length, None, Ok, Err, Option, Result, nat_lt, sym, refl, ap, ◌∙◌, arith, slice_index}
+use Rattle.std.proofs.Common.{◌≡◌, ℕ, Bool, false, List, [], ◌∷◌, ◌++◌, length, None, Ok, Err, Option, Result, nat_lt, sym, refl, ap, ◌∙◌, slice_index}
 use Rattle.std.specs.Prelude.{⊤}
 use Rattle.std.specs.List.{remove}
 use Rattle.std.proofs.lemmas.Option.{none-some}
@@ -10,10 +10,10 @@ use Rattle.bank.specs.declared.request.Mode.{Mode}
 use Rattle.plan.specs.Contents.{Contents, processors}
 use Rattle.plan_text.specs.Texts.{read_text}
 use Rattle.slots.specs.Lines.{requests, turn_limit}
-use Rattle.slots.specs.Of.{holders_of, parties_of, told_of, active_of, MadeFrom}
+use Rattle.slots.specs.Slots.{holders_of, parties_of, told_of, active_of, slots_ghosts, MadeFrom}
 use Rattle.slots.specs.Rows.{place}
 use Rattle.slots.specs.declared.slots.Slots.{Slots}
-use Rattle.examples.specs.Banks.{slots_bank, SlotsWork}
+use Rattle.examples.specs.Banks.{SlotsWork}
 use Rattle.examples.specs.Steps.{Step, enters, leaves, EnterGives, LeaveGives, Works}
 
 -- one resource for k with m seats, and who is active there
@@ -71,19 +71,19 @@ module _ (m k : ℕ) (ps : List ℕ) (s : Slots) (st : Stands m k ps s) where
         parties = e;
       }
 
-  entered : (t : Slots) (p : ℕ) (w : Mode) (a : Result Bool Refusal) → enter_asks 1 m k ps p w ≡ None → EnterGives slots_bank p w a s t → (a ≡ Ok (nat_lt (length ps) k)) × Stands m k (ps ++ p ∷ []) t
-  entered t p w (Err why) asks g = absurd (none-some (number why) (sym asks ∙ (sym (enter_asked p w) ∙ g.1)))
+  entered : (t : Slots) (p : ℕ) (w : Mode) (a : Result Bool Refusal) → enter_asks 1 m k ps p w ≡ None → EnterGives slots_ghosts p w a s t → (a ≡ Ok (nat_lt (length ps) k)) × Stands m k (ps ++ p ∷ []) t
+  entered t p w (Err why) asks g = absurd (none-some (number why) (sym asks ∙ (sym (enter_asked p w) ∙ g.0.lists)))
   entered t p w (Ok h) asks g = (
-    ap Ok (g.2.1 ∙ (ap (λ n. nat_lt (length (parties_of s 0)) n) st.slots ∙ ap (λ (qs : List ℕ). nat_lt (length qs) k) st.parties)),
-    stands t g.0 (ps ++ p ∷ []) (g.2.0 ∙ ap (λ (qs : List ℕ). qs ++ p ∷ []) st.parties),
+    ap Ok (g.1.holds ∙ (ap (λ n. nat_lt (length (parties_of s 0)) n) st.slots ∙ ap (λ (qs : List ℕ). nat_lt (length qs) k) st.parties)),
+    stands t g.0.tells (ps ++ p ∷ []) (g.1.parties.here ∙ ap (λ (qs : List ℕ). qs ++ p ∷ []) st.parties),
   )
 
-  left : (t : Slots) (p : ℕ) (a : Result (Unit {0}) Refusal) → leave_asks 1 k ps p ≡ None → LeaveGives slots_bank p a s t → (a ≡ Ok tt) × Stands m k (remove ps (place p ps)) t
-  left t p (Err why) asks g = absurd (none-some (number why) (sym asks ∙ (sym (leave_asked p) ∙ g.1)))
+  left : (t : Slots) (p : ℕ) (a : Result (Unit {0}) Refusal) → leave_asks 1 k ps p ≡ None → LeaveGives slots_ghosts p a s t → (a ≡ Ok tt) × Stands m k (remove ps (place p ps)) t
+  left t p (Err why) asks g = absurd (none-some (number why) (sym asks ∙ (sym (leave_asked p) ∙ g.0.lists)))
   left t p (Ok done) asks g =
-      (refl, stands t g.0 (remove ps (place p ps)) (g.2.0 ∙ ap (λ (qs : List ℕ). remove qs (place p qs)) st.parties))
+      (refl, stands t g.0.tells (remove ps (place p ps)) (g.1.parties.here ∙ ap (λ (qs : List ℕ). remove qs (place p qs)) st.parties))
 
-pub works : (m k : ℕ) (ps : List ℕ) (s : Slots) (steps : List Step) → Stands m k ps s → Goes m k ps steps → Works slots_bank s steps
+pub works : (m k : ℕ) (ps : List ℕ) (s : Slots) (steps : List Step) → Stands m k ps s → Goes m k ps steps → Works slots_ghosts s steps
 works m k ps s [] st g = tt
 works m k ps s (enters p w holds xs ∷ steps) st g = (
   enter_asked m k ps s st p w ∙ g.0,
@@ -97,11 +97,10 @@ works m k ps s (leaves p xs ∷ steps) st g = (
 -- a bank just made from a plan with one slot resource
 made : (c : Contents) (m k : ℕ) (s : Slots) → processors c ≡ m → c.slots ≡ k ∷ [] → MadeFrom c s → Stands m k [] s
 made c m k s seats slots d =
-    let one : length c.slots ≡ 1 = ap length slots in
     record {
-      resources = d.resources ∙ one;
-      seats = d.seats ∙ seats;
-      slots = d.slots 0 (omega (arith, one)) ∙ ap (λ (xs : List ℕ). slice_index xs 0) slots;
+      resources = ap (λ (x : Told). x.resources) d.told ∙ ap length slots;
+      seats = ap (λ (x : Told). x.seats) d.told ∙ seats;
+      slots = ap (λ (x : Told). x.slots 0) d.told ∙ ap (λ (xs : List ℕ). slice_index xs 0) slots;
       parties = d.nobody 0;
     }
 

@@ -9,26 +9,25 @@ use Rattle.bank.specs.declared.request.Mode.{Mode}
 use Rattle.bank.specs.declared.request.Mode.TheVariants.{Write, Read}
 use Rattle.plan.specs.Contents.{Contents, processors}
 use Rattle.plan_text.specs.Texts.{read_text}
-use Rattle.readers_writers.specs.Banks.{told_of, active_of}
+use Rattle.readers_writers.specs.ReadersWriters.{told_of, active_of, entries_of, writers_ghosts}
 use Rattle.readers_writers.specs.Lines.{admits, entered as entered_list, left as left_list, requests, turn_limit}
-use Rattle.readers_writers.specs.Of.{entries_of}
-use Rattle.readers_writers.specs.Told.{told}
+use Rattle.readers_writers.specs.Told.{told_with}
 use Rattle.readers_writers.specs.declared.entry.Entry.{Entry}
 use Rattle.readers_writers.specs.declared.lines.ReadersWriters.{ReadersWriters}
-use Rattle.examples.specs.Banks.{writers_bank, WritersWork}
+use Rattle.examples.specs.Banks.{WritersWork}
 use Rattle.examples.specs.Steps.{Step, enters, leaves, EnterGives, LeaveGives, Works}
 
 -- one resource with m seats, and its entries
 pub record Stands (m : ℕ) (es : List Entry) (b : ReadersWriters) : Type 0 where
   pub resources : (told_of b).resources ≡ 1
   pub seats : (told_of b).seats ≡ m
-  pub entries : entries_of b.lines 0 ≡ es
+  pub entries : entries_of b 0 ≡ es
 
 abbrev enter_asks : ℕ → ℕ → List Entry → ℕ → Mode → Option ℕ
-enter_asks n m es p w = first_no (enter_questions (told n m) 0 p w (requests es))
+enter_asks n m es p w = first_no (enter_questions (told_with n m) 0 p w (requests es))
 
 abbrev leave_asks : ℕ → List Entry → ℕ → Option ℕ
-leave_asks n es p = first_no (leave_questions (told n 0) 0 p (requests es))
+leave_asks n es p = first_no (leave_questions (told_with n 0) 0 p (requests es))
 
 -- each call is taken, with this answer, and these requests are active then
 abbrev pub Goes : ℕ → List Entry → List Step → Type 0
@@ -49,16 +48,16 @@ module _ (m : ℕ) (es : List Entry) (b : ReadersWriters) (st : Stands m es b) w
 
   enter_asked : (p : ℕ) (w : Mode) → first_no (enter_questions (told_of b) 0 p w (active_of b 0)) ≡ enter_asks 1 m es p w
   enter_asked p w =
-      ap (λ n. enter_asks n b.seats (entries_of b.lines 0) p w) st.resources
-      ∙ (ap (λ n. enter_asks 1 n (entries_of b.lines 0) p w) st.seats
+      ap (λ n. enter_asks n b.seats (entries_of b 0) p w) st.resources
+      ∙ (ap (λ n. enter_asks 1 n (entries_of b 0) p w) st.seats
       ∙ ap (λ ds. enter_asks 1 m ds p w) st.entries)
 
   leave_asked : (p : ℕ) → first_no (leave_questions (told_of b) 0 p (active_of b 0)) ≡ leave_asks 1 es p
   leave_asked p =
-      ap (λ n. leave_asks n (entries_of b.lines 0) p) st.resources
+      ap (λ n. leave_asks n (entries_of b 0) p) st.resources
       ∙ ap (λ ds. leave_asks 1 ds p) st.entries
 
-  stands : (d : ReadersWriters) → told_of d ≡ told_of b → (ds : List Entry) → entries_of d.lines 0 ≡ ds → Stands m ds d
+  stands : (d : ReadersWriters) → told_of d ≡ told_of b → (ds : List Entry) → entries_of d 0 ≡ ds → Stands m ds d
   stands d same ds e =
       record {
         resources = ap (λ (x : Told). x.resources) same ∙ st.resources;
@@ -66,18 +65,18 @@ module _ (m : ℕ) (es : List Entry) (b : ReadersWriters) (st : Stands m es b) w
         entries = e;
       }
 
-  entered : (d : ReadersWriters) (p : ℕ) (w : Mode) (a : Result Bool Refusal) → enter_asks 1 m es p w ≡ None → EnterGives writers_bank p w a b d → (a ≡ Ok (admits es w)) × Stands m (entered_list es p w) d
-  entered d p w (Err why) asks g = absurd (none-some (number why) (sym asks ∙ (sym (enter_asked p w) ∙ g.1)))
+  entered : (d : ReadersWriters) (p : ℕ) (w : Mode) (a : Result Bool Refusal) → enter_asks 1 m es p w ≡ None → EnterGives writers_ghosts p w a b d → (a ≡ Ok (admits es w)) × Stands m (entered_list es p w) d
+  entered d p w (Err why) asks g = absurd (none-some (number why) (sym asks ∙ (sym (enter_asked p w) ∙ g.0.lists)))
   entered d p w (Ok h) asks g = (
-    ap Ok (g.2.0 ∙ ap (λ ds. admits ds w) st.entries),
-    stands d g.0 (entered_list es p w) (g.2.1 ∙ ap (λ ds. entered_list ds p w) st.entries),
+    ap Ok (g.1.holds ∙ ap (λ ds. admits ds w) st.entries),
+    stands d g.0.tells (entered_list es p w) (g.1.entries.here ∙ ap (λ ds. entered_list ds p w) st.entries),
   )
 
-  left : (d : ReadersWriters) (p : ℕ) (a : Result (Unit {0}) Refusal) → leave_asks 1 es p ≡ None → LeaveGives writers_bank p a b d → (a ≡ Ok tt) × Stands m (left_list es p) d
-  left d p (Err why) asks g = absurd (none-some (number why) (sym asks ∙ (sym (leave_asked p) ∙ g.1)))
-  left d p (Ok done) asks g = (refl, stands d g.0 (left_list es p) (g.2.0 ∙ ap (λ ds. left_list ds p) st.entries))
+  left : (d : ReadersWriters) (p : ℕ) (a : Result (Unit {0}) Refusal) → leave_asks 1 es p ≡ None → LeaveGives writers_ghosts p a b d → (a ≡ Ok tt) × Stands m (left_list es p) d
+  left d p (Err why) asks g = absurd (none-some (number why) (sym asks ∙ (sym (leave_asked p) ∙ g.0.lists)))
+  left d p (Ok done) asks g = (refl, stands d g.0.tells (left_list es p) (g.1.here ∙ ap (λ ds. left_list ds p) st.entries))
 
-pub works : (m : ℕ) (es : List Entry) (b : ReadersWriters) (steps : List Step) → Stands m es b → Goes m es steps → Works writers_bank b steps
+pub works : (m : ℕ) (es : List Entry) (b : ReadersWriters) (steps : List Step) → Stands m es b → Goes m es steps → Works writers_ghosts b steps
 works m es b [] st g = tt
 works m es b (enters p w holds xs ∷ steps) st g = (
   enter_asked m es b st p w ∙ g.0,
@@ -92,8 +91,8 @@ pub writers_work : (text : List ℕ) (c : Contents) (m w r : ℕ) (steps : List 
 writers_work text c m w r steps accepted e one write_turns read_turns g = (
   accepted,
   λ b made.
-      let seats : (told_of b).seats ≡ m = ap (λ (x : Told). x.seats) made.0 ∙ e in
-      let st : Stands m [] b = record { resources = ap (λ (x : Told). x.resources) made.0 ∙ one; seats = seats; entries = made.1 0 } in (
+      let seats : (told_of b).seats ≡ m = ap (λ (x : Told). x.seats) made.told ∙ e in
+      let st : Stands m [] b = record { resources = ap (λ (x : Told). x.resources) made.told ∙ one; seats = seats; entries = made.nobody 0 } in (
         record {
           seats = seats;
           slots = refl;

@@ -1,7 +1,7 @@
 -- A bank worked by calls at its resource 0, one after another.
 use Rattle.std.specs.Prelude.{◌≡◌, ℕ, Bool, List, [], ◌∷◌, None, Ok, Result, ⊤}
 use Rattle.text.specs.Questions.{first_no}
-use Rattle.bank.specs.Meaning.{Enters, Leaves}
+use Rattle.bank.specs.Meaning.{EntersBank, LeavesBank}
 use Rattle.bank.specs.Questions.{enter_questions, leave_questions}
 use Rattle.bank.specs.declared.meaning.Bank.{Ghosts}
 use Rattle.bank.specs.declared.refusal.Refusal.{Refusal}
@@ -28,14 +28,12 @@ module _ {X : Type 0} (b : Ghosts X) where
   -- and what the maker of this one adds
   abbrev pub EnterGives : ℕ → Mode → Result Bool Refusal → X → X → Type 0
   EnterGives p m answer old new =
-      (b.told new ≡ b.told old)
-      × Enters (b.told old) 0 p m answer (b.active old) (b.active new)
+      EntersBank b.told b.active 0 p m answer old new
       × b.entered 0 p m answer old new
 
   abbrev pub LeaveGives : ℕ → Result (Unit {0}) Refusal → X → X → Type 0
   LeaveGives p answer old new =
-      (b.told new ≡ b.told old)
-      × Leaves (b.told old) 0 p answer (b.active old) (b.active new)
+      LeavesBank b.told b.active 0 p answer old new
       × b.left 0 p answer old new
 
   -- the bank's questions are all answered yes, as it stands

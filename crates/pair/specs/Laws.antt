@@ -6,6 +6,7 @@ use Rattle.std.proofs.lemmas.Bool.{cond-true, cond-false, ltb-true, ltb-false}
 use Rattle.bank.specs.Lists.{holders}
 use Rattle.bank.specs.Meaning.{Lists, Small, Lawful, Sound}
 use Rattle.bank.specs.Questions.{Told, knows}
+use Rattle.bank.specs.declared.size.TheConstants.{RESOURCES, MOST_TURNS}
 use Rattle.bank.specs.declared.request.Mode.{Mode}
 use Rattle.bank.specs.declared.request.Mode.TheVariants.{Write, Read}
 use Rattle.bank.specs.declared.request.Request.{Request}
@@ -38,13 +39,13 @@ module _ (a b : Told) (r : ℕ) where
   pub in_second : {A : Type 0} (f g : ℕ → A) → nat_lt r a.resources ≡ false → part a.resources f g r ≡ g (r - a.resources)
   in_second f g e = cond-false (nat_lt r a.resources) (f r) (g (r - a.resources)) e
 
-  limit_first : (m : Mode) → nat_lt r a.resources ≡ true → Small a → knows (pair_told a b) r m ≡ true → (pair_told a b).limit r m ≤ 1000
+  limit_first : (m : Mode) → nat_lt r a.resources ≡ true → Small a → knows (pair_told a b) r m ≡ true → (pair_told a b).limit r m ≤ MOST_TURNS
   limit_first m e small known =
       let l : (pair_told a b).limit r m ≡ a.limit r m = same_limit a (pair_told a b) r r (in_first a.slots b.slots e) (in_first a.reads b.reads e) (in_first a.limit b.limit e) m in
       let k : knows a r m ≡ true = sym (same_knows a (pair_told a b) r r (in_first a.slots b.slots e) (in_first a.reads b.reads e) (in_first a.limit b.limit e) m) ∙ known in
       omega (arith, small.limits r m (ltb-true r a.resources e) k)
 
-  limit_second : (m : Mode) → nat_lt r a.resources ≡ false → r < min 16 (a.resources + b.resources) → Small b → knows (pair_told a b) r m ≡ true → (pair_told a b).limit r m ≤ 1000
+  limit_second : (m : Mode) → nat_lt r a.resources ≡ false → r < min RESOURCES (a.resources + b.resources) → Small b → knows (pair_told a b) r m ≡ true → (pair_told a b).limit r m ≤ MOST_TURNS
   limit_second m e lt small known =
       let q : ℕ = r - a.resources in
       let l : (pair_told a b).limit r m ≡ b.limit q m = same_limit b (pair_told a b) q r (in_second a.slots b.slots e) (in_second a.reads b.reads e) (in_second a.limit b.limit e) m in
@@ -52,7 +53,7 @@ module _ (a b : Told) (r : ℕ) where
       let there : q < b.resources = omega (arith, ltb-false r a.resources e) in
       omega (arith, small.limits q m there k)
 
-  sound_at : (first second : Lists) (c : Bool) → nat_lt r a.resources ≡ c → r < min 16 (a.resources + b.resources) → ((q : ℕ) → q < a.resources → Sound a q (first q)) → ((q : ℕ) → q < b.resources → Sound b q (second q)) → Sound (pair_told a b) r (pair_active a first second r)
+  sound_at : (first second : Lists) (c : Bool) → nat_lt r a.resources ≡ c → r < min RESOURCES (a.resources + b.resources) → ((q : ℕ) → q < a.resources → Sound a q (first q)) → ((q : ℕ) → q < b.resources → Sound b q (second q)) → Sound (pair_told a b) r (pair_active a first second r)
   sound_at first second true e lt sa sb =
       rw (in_first first second e)
       (same_sound a (pair_told a b) r r (in_first a.slots b.slots e) (in_first a.reads b.reads e) (in_first a.limit b.limit e) (first r) (sa r (ltb-true r a.resources e)))
@@ -61,7 +62,7 @@ module _ (a b : Told) (r : ℕ) where
       rw (in_second first second e)
       (same_sound b (pair_told a b) (r - a.resources) r (in_second a.slots b.slots e) (in_second a.reads b.reads e) (in_second a.limit b.limit e) (second (r - a.resources)) (sb (r - a.resources) there))
 
-limits_at : (a b : Told) (r : ℕ) (m : Mode) (c : Bool) → nat_lt r a.resources ≡ c → r < min 16 (a.resources + b.resources) → Small a → Small b → knows (pair_told a b) r m ≡ true → (pair_told a b).limit r m ≤ 1000
+limits_at : (a b : Told) (r : ℕ) (m : Mode) (c : Bool) → nat_lt r a.resources ≡ c → r < min RESOURCES (a.resources + b.resources) → Small a → Small b → knows (pair_told a b) r m ≡ true → (pair_told a b).limit r m ≤ MOST_TURNS
 limits_at a b r m true e lt sa sb known = limit_first a b r m e sa known
 limits_at a b r m false e lt sa sb known = limit_second a b r m e lt sb known
 
@@ -73,5 +74,5 @@ pair_small a b sa sb = record {
   limits = λ r m lt known. limits_at a b r m (nat_lt r a.resources) refl lt sa sb known;
 }
 
-pub pair_sound : (a b : Told) (first second : Lists) → ((q : ℕ) → q < a.resources → Sound a q (first q)) → ((q : ℕ) → q < b.resources → Sound b q (second q)) → (r : ℕ) → r < min 16 (a.resources + b.resources) → Sound (pair_told a b) r (pair_active a first second r)
+pub pair_sound : (a b : Told) (first second : Lists) → ((q : ℕ) → q < a.resources → Sound a q (first q)) → ((q : ℕ) → q < b.resources → Sound b q (second q)) → (r : ℕ) → r < min RESOURCES (a.resources + b.resources) → Sound (pair_told a b) r (pair_active a first second r)
 pair_sound a b first second sa sb r lt = sound_at a b r first second (nat_lt r a.resources) refl lt sa sb

@@ -7,6 +7,7 @@ use crate::within::enter_within;
 use bank::meaning::Bank;
 use bank::refusal::Refusal;
 use bank::request::{Mode, Request};
+use bank::size::RESOURCES;
 
 /// Two banks as one: the first's resources, followed by the second's.
 #[derive(Debug, PartialEq, Eq, Drop)]
@@ -45,16 +46,16 @@ impl<A: Bank, B: Bank> Bank for Pair<A, B> {
 
     ghost active = { λ s. pair_active (A.Bank.told s.first) (A.Bank.active s.first) (B.Bank.active s.second) };
 
-    ghost entered = { λ r p m result old new. pair_entered A.Bank.told B.Bank.told A.Bank.entered B.Bank.entered r p m result old new };
+    ghost entered = { λ r p m result old new. pair_entered A.Bank B.Bank r p m result old new };
 
-    ghost left = { λ r p result old new. pair_left A.Bank.told B.Bank.told A.Bank.left B.Bank.left r p result old new };
+    ghost left = { λ r p result old new. pair_left A.Bank B.Bank r p result old new };
 
     ghost small = { λ b. pair_small (A.Bank.told b.first) (B.Bank.told b.second) (A.Bank.small b.first) (B.Bank.small b.second) };
 
     ghost sound = { λ b r lt. pair_sound (A.Bank.told b.first) (B.Bank.told b.second) (A.Bank.active b.first) (B.Bank.active b.second) (A.Bank.sound b.first) (B.Bank.sound b.second) r lt };
 
     fn resources(&self) -> u32 {
-        (self.first.resources() + self.second.resources()).min(16)
+        (self.first.resources() + self.second.resources()).min(RESOURCES as u32)
     }
 
     fn seats(&self) -> u32 {

@@ -1,8 +1,7 @@
-ghost use Rattle.std.specs.Prelude.{◌≡◌, ◌≤◌, Ok, Err};
+ghost use Rattle.std.specs.Prelude.{◌≤◌};
 ghost use Rattle.bank.specs.Lists.{is_active};
 ghost use Rattle.bank.specs.Questions.{Tells, party_questions};
-ghost use Rattle.bank.specs.Meaning.{Enters, Keeps};
-ghost use Rattle.pair.specs.Pairs.{with_seats};
+ghost use Rattle.pair.specs.Pairs.{EntersWithin};
 
 use bank::meaning::Bank;
 use bank::refusal::Refusal;
@@ -25,10 +24,7 @@ pub(crate) fn enter_within<B: Bank>(
     mode: Mode,
 ) -> Result<bool, Refusal>
     requires { seats ≤ (B.Bank.told bank.old).seats }
-    ensures told { B.Bank.told bank.new ≡ B.Bank.told bank.old }
-    ensures enters { Enters (with_seats seats (B.Bank.told bank.old)) resource party mode result (B.Bank.active bank.old) (B.Bank.active bank.new) }
-    ensures keeps { Keeps result bank.old bank.new }
-    ensures exact { elim result [ Ok h ↦ B.Bank.entered resource party mode (Ok h) bank.old bank.new | Err why ↦ Unit {0} ] }
+    ensures { EntersWithin B.Bank seats resource party mode result bank.old bank.new }
 {
     bank.turn_limit(resource, mode)?;
     if is_active(bank, resource, party)? {

@@ -7,6 +7,7 @@ use Rattle.bank.specs.Meaning.{Added}
 use Rattle.bank.specs.declared.request.Mode.{Mode}
 use Rattle.bank.specs.declared.request.Mode.TheVariants.{Write, Read}
 use Rattle.bank.specs.declared.request.Request.{Request}
+use Rattle.bank.specs.declared.size.TheConstants.{PARTIES}
 use Rattle.readers_writers.specs.Lines.{some, count_of, is_holder, is_writer, holding_writer, collected, admits, entered, request_of, requests_from, requests}
 use Rattle.readers_writers.specs.Kept.{ordered, good, named, waits, settled}
 use Rattle.readers_writers.specs.declared.entry.Entry.{Entry}
@@ -21,7 +22,7 @@ ordered_push (e ∷ es) x o h =
     let more : ordered es ≡ true → (some is_writer es || (is_writer x || x.holds)) ≡ true → ordered (es ++ (x ∷ [])) ≡ true = ordered_push es x in
     grind (arith, nat_tests)
 
-pub named_push : (es : List Entry) (x : Entry) → named es ≡ true → x.party < 64 → named (es ++ (x ∷ [])) ≡ true
+pub named_push : (es : List Entry) (x : Entry) → named es ≡ true → x.party < PARTIES → named (es ++ (x ∷ [])) ≡ true
 named_push [] x n l = grind (arith, nat_tests)
 named_push (e ∷ es) x n l = let more : named es ≡ true → named (es ++ (x ∷ [])) ≡ true = λ h. named_push es x h l in grind (arith, nat_tests)
 

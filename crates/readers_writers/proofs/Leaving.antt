@@ -8,6 +8,7 @@ use Rattle.bank.specs.Lists.{without, is_write, holds_by}
 use Rattle.bank.specs.Meaning.{Stays}
 use Rattle.bank.specs.declared.request.Mode.{Mode}
 use Rattle.bank.specs.declared.request.Mode.TheVariants.{Write, Read}
+use Rattle.bank.specs.declared.size.TheConstants.{PARTIES}
 use Rattle.readers_writers.specs.Lines.{some, count_of, is_holder, is_writer, holding_writer, collected, holder_of, removed, mode_of, reads_hold, writer_holds, passed, left, request_of, requests_from, requests}
 use Rattle.readers_writers.specs.Kept.{ordered, good, named}
 use Rattle.readers_writers.specs.declared.entry.Entry.{Entry}
@@ -138,13 +139,13 @@ good_writing (e ∷ es) z o =
 -- parties and length stay when others hold
 named_reads : (es : List Entry) → named es ≡ true → named (reads_hold es) ≡ true
 named_reads [] z = refl
-named_reads (e ∷ es) z = let p = and_parts (nat_lt e.party 64) (named es) z in let more = named_reads es p.1 in let l = p.0 in grind (arith, nat_tests)
+named_reads (e ∷ es) z = let p = and_parts (nat_lt e.party PARTIES) (named es) z in let more = named_reads es p.1 in let l = p.0 in grind (arith, nat_tests)
 
 writers_kept : (es : List Entry) → (length (writer_holds es) ≡ length es) × (named es ≡ true → named (writer_holds es) ≡ true)
 writers_kept [] = (refl, λ z. refl)
 writers_kept (e ∷ es) =
     let more = writers_kept es in
-    cond_both (is_writer e) (held e ∷ es) (e ∷ writer_holds es) (λ xs. (length xs ≡ length (e ∷ es)) × (named (e ∷ es) ≡ true → named xs ≡ true)) (λ t. (refl, λ z. z)) (λ t. (omega arith, λ z. let p = and_parts (nat_lt e.party 64) (named es) z in and_from (nat_lt e.party 64) (named (writer_holds es)) p.0 (more.1 p.1)))
+    cond_both (is_writer e) (held e ∷ es) (e ∷ writer_holds es) (λ xs. (length xs ≡ length (e ∷ es)) × (named (e ∷ es) ≡ true → named xs ≡ true)) (λ t. (refl, λ z. z)) (λ t. (omega arith, λ z. let p = and_parts (nat_lt e.party PARTIES) (named es) z in and_from (nat_lt e.party PARTIES) (named (writer_holds es)) p.0 (more.1 p.1)))
 
 pub length_reads : (es : List Entry) → length (reads_hold es) ≡ length es
 length_reads [] = refl
@@ -174,8 +175,8 @@ module _ (p : ℕ) where
   named_removed : (es : List Entry) → named es ≡ true → named (removed p es) ≡ true
   named_removed [] z = refl
   named_removed (e ∷ es) z =
-      let q = and_parts (nat_lt e.party 64) (named es) z in
-      ⊎_elim (λ t. rw (removed_here e es t) q.1) (λ t. rw (removed_there e es t) (and_from (nat_lt e.party 64) (named (removed p es)) q.0 (named_removed es q.1))) (cases_Bool (holder_of p e))
+      let q = and_parts (nat_lt e.party PARTIES) (named es) z in
+      ⊎_elim (λ t. rw (removed_here e es t) q.1) (λ t. rw (removed_there e es t) (and_from (nat_lt e.party PARTIES) (named (removed p es)) q.0 (named_removed es q.1))) (cases_Bool (holder_of p e))
 
   ordered_removed : (es : List Entry) → some holding_writer es ≡ false → ordered es ≡ true → ordered (removed p es) ≡ true
   ordered_removed [] z o = refl

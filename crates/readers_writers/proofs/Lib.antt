@@ -1,6 +1,7 @@
-pub mod BanksLemmas
 pub mod Entering
+pub mod Exact
 pub mod Leaving
+pub mod Meaning
 pub mod Places
 pub mod PlacesLemmas
 pub mod Positions

@@ -1,11 +1,13 @@
 -- What a search among entries tells.
-use Rattle.std.proofs.Common.{◌≡◌, ℕ, ◌+◌, ◌≤◌, Bool, true, false, cond, List, ◌++◌, length, take, remove, nat_lt, slice_index_or, append-nil, position, count_by, Some, None, Option, refl, sym, ap, ◌∙◌, arith}
+use Rattle.std.proofs.Common.{◌≡◌, ℕ, ◌+◌, ◌≤◌, Bool, true, false, cond, List, ◌++◌, length, take, remove, nat_lt, slice_index_or, append-nil, position, count_by, is_some, Some, None, Option, refl, sym, ap, ◌∙◌, arith}
 use Rattle.std.proofs.lemmas.Bool.{ltb-false}
 use Rattle.std.proofs.lemmas.Bool.Decides.{nat_tests}
 use Rattle.std.proofs.lemmas.List.{take_all, drop_all}
 use Rattle.std.proofs.lemmas.List.Recursion.{is_position_or_len, is_count_by}
 use Rattle.std.specs.List.{position_or_len, refill}
-use Rattle.readers_writers.specs.Lines.{some, count_of, holder_of, mode_of, removed, passed, left}
+use Rattle.readers_writers.specs.Lines.{some, count_of, holder_of, mode_of, removed, passed, left, requests}
+use Rattle.bank.specs.Lists.{is_holder}
+use Rattle.readers_writers.proofs.Requests.{holder_entry}
 use Rattle.readers_writers.specs.Places.{blank, place_of, parted}
 use Rattle.readers_writers.proofs.PlacesLemmas.{place_some, removed_at, mode_at}
 use Rattle.readers_writers.specs.declared.entry.Entry.{Entry}
@@ -18,6 +20,10 @@ missing_by : (b : Bool) (k : ℕ) → ◌≡◌ {A = Option ℕ} (cond b (Some k
 missing_by true k e = cc
 missing_by false k e = refl
 
+some_if : (b : Bool) (k : ℕ) → is_some (cond {A = Option ℕ} b (Some k) None) ≡ b
+some_if true k = refl
+some_if false k = refl
+
 module _ (f : Entry → Bool) where
   place_or_len : (es : List Entry) → place_of f es ≡ position_or_len f es
   place_or_len = is_position_or_len (place_of f) f refl (λ e es. let k : place_of f es + 1 ≡ 1 + place_of f es = omega arith in ap (λ k. cond (f e) 0 k) k)
@@ -29,6 +35,9 @@ module _ (f : Entry → Bool) where
   pub found : (es : List Entry) (i : ℕ) → position f es ≡ Some i → (some f es ≡ true) × (i ≡ place_of f es)
   found es i e = found_by (some f es) (place_of f es) i (sym (position_is es) ∙ e)
 
+  pub some_is : (es : List Entry) → is_some (position f es) ≡ some f es
+  some_is es = ap is_some (position_is es) ∙ some_if (some f es) (place_of f es)
+
   pub missing : (es : List Entry) → position f es ≡ None → some f es ≡ false
   missing es e = missing_by (some f es) (place_of f es) (sym (position_is es) ∙ e)
 
@@ -37,6 +46,10 @@ module _ (f : Entry → Bool) where
 
   pub count_is : (es : List Entry) → count_by f es ≡ count_of f es
   count_is es = sym (is_count_by (count_of f) f refl (λ e es. grind (arith, nat_tests)) es)
+
+-- a party holds where a holder of it is found
+pub holds_at : (p : ℕ) (es : List Entry) → is_holder p (requests es) ≡ is_some (position (holder_of p) es)
+holds_at p es = holder_entry p es ∙ sym (some_is (holder_of p) es)
 
 -- the holder of a party is gone
 pub parted_left : (p i : ℕ) (es : List Entry) → position (holder_of p) es ≡ Some i → parted es i ≡ left es p

@@ -1,10 +1,9 @@
-pub mod Banks
-pub mod Exactly
 pub mod Kept
+pub mod Limits
 pub mod Lines
-pub mod Of
+pub mod Meaning
 pub mod Places
-pub mod Told
-pub mod ReadersWritersBankLemmas
+pub mod ReadersWriters
 pub mod Some
 pub mod Sound
+pub mod Told

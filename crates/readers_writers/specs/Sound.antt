@@ -9,9 +9,10 @@ use Rattle.bank.specs.Meaning.{Lawful, Sound}
 use Rattle.bank.specs.declared.request.Mode.{Mode}
 use Rattle.bank.specs.declared.request.Mode.TheVariants.{Write, Read}
 use Rattle.bank.specs.declared.request.Request.{Request}
+use Rattle.bank.specs.declared.size.TheConstants.{PARTIES}
 use Rattle.readers_writers.specs.Lines.{some, count_of, is_holder, is_writer, holding_writer, request_of, requests_from, requests}
 use Rattle.readers_writers.specs.Kept.{ordered, good, named, waits}
-use Rattle.readers_writers.specs.Told.{told}
+use Rattle.readers_writers.specs.Told.{told_with}
 use Rattle.readers_writers.specs.declared.entry.Entry.{Entry}
 use Rattle.readers_writers.specs.Some.{some_count, some_least, some_fewer, waits_or_holds}
 
@@ -46,7 +47,7 @@ reads_same : (b : Bool) (h n : ℕ) (e : Entry) → holds_read (request_of b h n
 reads_same b h n e = let a = request_mode b h n e in let c = request_holds b h n e in cc
 
 -- a waiting request with n writers before it, of m at most
-lawful_one : (c m r t h n p : ℕ) (b : Bool) (k : Mode) (g : Bool) → p < 64 → 1 ≤ h → h ≤ t → (g ≡ false → ((n + 1) + cond b 0 1 ≤ m) × (n ≡ 0 → (is_write k ≡ true) × (b ≡ false))) → Lawful (told c m) r t (request_of b h n (record { party = p; mode = k; holds = g }))
+lawful_one : (c m r t h n p : ℕ) (b : Bool) (k : Mode) (g : Bool) → p < PARTIES → 1 ≤ h → h ≤ t → (g ≡ false → ((n + 1) + cond b 0 1 ≤ m) × (n ≡ 0 → (is_write k ≡ true) × (b ≡ false))) → Lawful (told_with c m) r t (request_of b h n (record { party = p; mode = k; holds = g }))
 lawful_one c m r t h n p b Write true lt some up w = record { party = lt; known = refl; holding = λ _. (refl, refl); waiting = λ z. absurd (true≢false z) }
 lawful_one c m r t h n p b Read true lt some up w = record { party = lt; known = refl; holding = λ _. (refl, refl); waiting = λ z. absurd (true≢false z) }
 lawful_one c m r t h n p true Write false lt some up w = let o = (w refl).0 in let q : n ≡ 0 → ⊥ = λ z. true≢false ((w refl).1 z).1 in record { party = lt; known = refl; holding = λ z. absurd (false≢true z); waiting = λ _. (omega arith, omega arith, some, up) }
@@ -54,10 +55,10 @@ lawful_one c m r t h n p false Write false lt some up w = let o = (w refl).0 in 
 lawful_one c m r t h n p true Read false lt some up w = let o = (w refl).0 in let q : n ≡ 0 → ⊥ = λ z. true≢false ((w refl).1 z).1 in record { party = lt; known = refl; holding = λ z. absurd (false≢true z); waiting = λ _. (omega arith, omega arith, some, up) }
 lawful_one c m r t h n p false Read false lt some up w = let o = (w refl).0 in let q : n ≡ 0 → ⊥ = λ z. false≢true ((w refl).1 z).0 in record { party = lt; known = refl; holding = λ z. absurd (false≢true z); waiting = λ _. (omega arith, omega arith, some, up) }
 
-lawful_from : (c m r t : ℕ) (b : Bool) (h n : ℕ) (es : List Entry) → 1 ≤ h → h ≤ t → named es ≡ true → some holding_writer es ≡ false → (n + count_of waits es) + cond b 0 1 ≤ m → (n ≡ 0 → (ordered es ≡ true) × (b ≡ false)) → AllByRecursion (Lawful (told c m) r t) (requests_from b h n es)
+lawful_from : (c m r t : ℕ) (b : Bool) (h n : ℕ) (es : List Entry) → 1 ≤ h → h ≤ t → named es ≡ true → some holding_writer es ≡ false → (n + count_of waits es) + cond b 0 1 ≤ m → (n ≡ 0 → (ordered es ≡ true) × (b ≡ false)) → AllByRecursion (Lawful (told_with c m) r t) (requests_from b h n es)
 lawful_from c m r t b h n [] one up low none few first = tt
 lawful_from c m r t b h n (e ∷ es) one up low none few first =
-    let l = and_parts (nat_lt e.party 64) (named es) low in
+    let l = and_parts (nat_lt e.party PARTIES) (named es) low in
     let q = or_parts (holding_writer e) (some holding_writer es) none in (
       lawful_one c m r t h n e.party b e.mode e.holds (ltb-true _ _ l.0) one up (λ z. (grind (arith, nat_tests), λ y. (let s = (first y).0 in grind (arith, nat_tests), (first y).1))),
       lawful_from c m r t b h (n + cond (is_writer e) 1 0) es one up l.1 q.1 (let k = q.0 in grind (arith, nat_tests)) (λ z. let y : n ≡ 0 = omega arith in (let s = (first y).0 in let w : is_writer e ≡ false = grind (arith, nat_tests) in grind (arith, nat_tests), (first y).1)),
@@ -86,10 +87,10 @@ reading es z = ap (λ x. requests_from x (count_of is_holder es) 0 es) z
 no_writer_holds : (es : List Entry) → some is_holder es ≡ false → some holding_writer es ≡ false
 no_writer_holds es z = some_fewer is_holder holding_writer (λ e f. grind (arith, nat_tests)) es z
 
-lawful_requests : (c m r : ℕ) (es : List Entry) → good es ≡ true → named es ≡ true → length es ≤ m → AllByRecursion (Lawful (told c m) r (count_of is_holder es)) (requests es)
+lawful_requests : (c m r : ℕ) (es : List Entry) → good es ≡ true → named es ≡ true → length es ≤ m → AllByRecursion (Lawful (told_with c m) r (count_of is_holder es)) (requests es)
 lawful_requests c m r [] g low l = tt
 lawful_requests c m r (e ∷ es) g low l =
-    let n = and_parts (nat_lt e.party 64) (named es) low in
+    let n = and_parts (nat_lt e.party PARTIES) (named es) low in
     let k = waits_or_holds (e ∷ es) in
     ⊎_elim
     (λ w.
@@ -97,13 +98,13 @@ lawful_requests c m r (e ∷ es) g low l =
     let none = some_count is_holder es w.1 in
     let all = waits_or_holds es in
     let one : count_of is_holder (e ∷ es) ≡ 1 = omega (arith, cond-true {A = ℕ} e.holds 1 0 p.0) in
-    subst (AllByRecursion (Lawful (told c m) r (count_of is_holder (e ∷ es)))) (sym (writing e es w.0 w.1)) (
+    subst (AllByRecursion (Lawful (told_with c m) r (count_of is_holder (e ∷ es)))) (sym (writing e es w.0 w.1)) (
       lawful_one c m r (count_of is_holder (e ∷ es)) 1 0 e.party true e.mode e.holds (ltb-true _ _ n.0) (omega arith) (omega arith) (λ z. absurd (true≢false (sym p.0 ∙ z))),
       lawful_from c m r (count_of is_holder (e ∷ es)) true 1 1 es (omega arith) (omega arith) n.1 (no_writer_holds es w.1) (omega arith) (λ z. absurd (omega arith)),
     ))
     (λ w.
     let some = some_least is_holder (e ∷ es) w.0 in
-    subst (AllByRecursion (Lawful (told c m) r (count_of is_holder (e ∷ es)))) (sym (reading (e ∷ es) w.1)) (lawful_from c m r (count_of is_holder (e ∷ es)) false (count_of is_holder (e ∷ es)) 0 (e ∷ es) some (omega arith) low w.1 (omega arith) (λ z. (w.2, refl))))
+    subst (AllByRecursion (Lawful (told_with c m) r (count_of is_holder (e ∷ es)))) (sym (reading (e ∷ es) w.1)) (lawful_from c m r (count_of is_holder (e ∷ es)) false (count_of is_holder (e ∷ es)) 0 (e ∷ es) some (omega arith) low w.1 (omega arith) (λ z. (w.2, refl))))
     (ways e es g)
 
 -- at most one writer holds, and then no read
@@ -119,7 +120,7 @@ alone (e ∷ es) g =
     (λ w. let none = some_count holding_writer (e ∷ es) w.1 in (omega arith, λ z. absurd (omega arith)))
     (ways e es g)
 
-pub sound : (c m r : ℕ) (es : List Entry) → good es ≡ true → named es ≡ true → length es ≤ m → Sound (told c m) r (requests es)
+pub sound : (c m r : ℕ) (es : List Entry) → good es ≡ true → named es ≡ true → length es ≤ m → Sound (told_with c m) r (requests es)
 sound c m r es g low l =
     let b = some holding_writer es in
     let h = count_of is_holder es in
@@ -128,7 +129,7 @@ sound c m r es g low l =
     let reads = count_requests holds_read holding_read reads_same b h 0 es in
     let one = alone es g in
     record {
-      requests = subst (λ t. AllByRecursion (Lawful (told c m) r t) (requests es)) (sym all) (lawful_requests c m r es g low l);
+      requests = subst (λ t. AllByRecursion (Lawful (told_with c m) r t) (requests es)) (sym all) (lawful_requests c m r es g low l);
       writers = omega arith;
       apart = λ z. reads ∙ one.1 (omega arith);
     }

@@ -1,26 +1,29 @@
 ghost use Rattle.std.specs.Prelude.{◌≡◌, ◌<◌, ◌≤◌, ◌==◌, count_by, length, position, take};
 ghost use Rattle.std.specs.List.{slice_get};
-ghost use Rattle.bank.specs.Lists.{request_of};
+ghost use Rattle.bank.specs.declared.size.TheConstants.{PARTIES};
+ghost use Rattle.bank.specs.Lists.{is_active, request_of};
 ghost use Rattle.readers_writers.specs.Lines.{some, admits, entered, holder_of, is_holder, is_writer, holding_writer, collected, writer_holds, reads_hold, passed, turns, requests};
-ghost use Rattle.readers_writers.specs.Of.{list_of};
+ghost use Rattle.readers_writers.specs.Limits.{list_of};
 ghost use Rattle.readers_writers.specs.Places.{parted};
 
 use crate::entry::Entry;
 use arrayvec::ArrayVec;
 use bank::request::{Mode, Request, Standing};
+use bank::size::PARTIES;
 
 /// The active requests of one resource, in order of entry.
 #[derive(Debug, Default, PartialEq, Eq, Drop)]
 pub struct Line {
-    pub(crate) entries: ArrayVec<Entry, 64>,
+    pub(crate) entries: ArrayVec<Entry, PARTIES>,
 }
 
 impl Line {
     /// Whether a party is active.
+    #[tactic(auto, using(crate::proofs::Requests::active_entry, crate::proofs::Positions::some_is))]
     pub(crate) fn is_active(&self, party: u8) -> bool
-        ensures { result ≡ some (λ e. e.party == party) (list_of self.now) }
+        ensures { result ≡ is_active party (requests (list_of self.now)) }
     {
-        self.entries.iter().any(|e| e.party == party)
+        self.place(party).is_some()
     }
 
     // Whether a writer is active.
@@ -64,7 +67,7 @@ impl Line {
 
     /// Adds a request, and tells whether it holds.
     pub(crate) fn enter(&mut self, party: u8, mode: Mode) -> bool
-        requires { length (list_of self.old) < 64 }
+        requires { length (list_of self.old) < PARTIES }
         ensures list { list_of self.new ≡ entered (list_of self.old) party mode }
         ensures holds { result ≡ admits (list_of self.old) mode }
     {
@@ -138,7 +141,7 @@ impl Line {
     fn writers_before(&self, at: usize) -> u32
         requires { at ≤ length (list_of self.now) }
         ensures many { result ≡ count_by is_writer (take at (list_of self.now)) }
-        ensures few { result ≤ 64 }
+        ensures few { result ≤ PARTIES }
     {
         self.entries[..at].iter().filter(|e| e.is_writer()).count() as u32
     }
@@ -192,7 +195,7 @@ fn reads_hold(es: &mut [Entry])
 
 // The turns of a waiting entry with so many writers before it.
 fn turns(writing: bool, before: u32, mode: Mode) -> u32
-    requires { before ≤ 64 }
+    requires { before ≤ PARTIES }
     ensures { result ≡ turns writing before mode }
 {
     match mode {

@@ -111,7 +111,7 @@ module _ (a : Setup) (set : Setting a) (h : History) (i : InvOf a h) (new : List
       third_change = record { self = second_change.self ∙ ap (λ (k : TaskWords). issued_words k w) (sym first_change.self); others = second_change.others }
 
       others : (q : ℕ) → q < a.resources → (q ≡ r → ⊥) → new q ≡ lists h q
-      others q l ne = enter.2 q (subst (λ (z : ℕ). q < z) (sym (set.resources (omega arith))) l) ne
+      others q l ne = enter.others q (subst (λ (z : ℕ). q < z) (sym (set.resources (omega arith))) l) ne
 
       jobs : (q : ℕ) → (ks' q).job ≡ (words_of a h q).job
       jobs = same_job (words_of a h) ks' p _ whole_change refl
@@ -126,10 +126,10 @@ module _ (a : Setup) (set : Setting a) (h : History) (i : InvOf a h) (new : List
       unissued = ap (λ (k : TaskWords). k.issued) first_change.self
 
       inv_after : Inv a nobody ks' new (releases h)
-      inv_after = issue_step a ks₁ ks' (lists h) new (releases h) p w holds waiting_inv wants unissued early_now enter.1 others sound third_change
+      inv_after = issue_step a ks₁ ks' (lists h) new (releases h) p w holds waiting_inv wants unissued early_now enter.added others sound third_change
 
       held_now : held_in p (issued_words (words_of a h p) w) new ≡ holds
-      held_now = ap is_held (entry_new a ks₁ ks' (lists h) new (releases h) p w holds waiting_inv wants unissued early_now enter.1 others sound third_change) ∙ enter.1.holds
+      held_now = ap is_held (entry_new a ks₁ ks' (lists h) new (releases h) p w holds waiting_inv wants unissued early_now enter.added others sound third_change) ∙ enter.added.holds
 
       pub issued_stepped : Stepped a (asked p r m (Ok x)) new h
       issued_stepped = record {
@@ -138,7 +138,7 @@ module _ (a : Setup) (set : Setting a) (h : History) (i : InvOf a h) (new : List
             (rw (eq-eqb p p refl) (ap (λ (s : State). record { state = s; release = unwrap_or (job p h) 0; used = 0; blocked = (words_of a h p).blocked })
             (issued_state_lem (job p h) w (held_in p (issued_words (words_of a h p) w) new) g.0 ∙ ap (λ (b : Bool). issued_state b w) held_now ∙ sym st)))
             (λ q e. rw e (ap (λ (s : State). record { state = s; release = unwrap_or (job q h) 0; used = used q h; blocked = (words_of a h q).blocked })
-            (state_same a (releases h) q (words_of a h q) (lists h) new (i.tasks q) (entered_others a p r (lists h) new enter.1.request enter.1.list enter.1.party others q e))));
+            (state_same a (releases h) q (words_of a h q) (lists h) new (i.tasks q) (entered_others a p r (lists h) new enter.added.request enter.added.list enter.added.party others q e))));
         stays = λ t f e. first_jobs a (words_of a h) ks' (lists h) new jobs t ∙ f;
       }
 

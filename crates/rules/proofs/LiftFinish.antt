@@ -161,7 +161,7 @@ module _ (a : Setup) (h : History) (i : InvOf a h) (p : ℕ) (free : wanted p h 
         go q e false g = rw (e, g) refl
 
     others : (q : ℕ) → q < a.resources → (q ≡ w.resource → ⊥) → new q ≡ lists h q
-    others q l ne = entered.2 q (subst (λ (z : ℕ). q < z) (sym (set.resources (omega arith))) l) ne
+    others q l ne = entered.others q (subst (λ (z : ℕ). q < z) (sym (set.resources (omega arith))) l) ne
 
     exempt_inv : Inv a (λ t. eqb u t) ks₁ (lists h) (releases h)
     exempt_inv = rw next at ended_inv
@@ -173,7 +173,7 @@ module _ (a : Setup) (h : History) (i : InvOf a h) (p : ℕ) (free : wanted p h 
     unissued = ap (λ (k : TaskWords). k.issued) n.words ∙ n.unissued
 
     held_now : held_in u (issued_words (ks₁ u) w) new ≡ x.holds
-    held_now = ap is_held (entry_new a ks₁ ks' (lists h) new (releases h) u w x.holds exempt_inv wants unissued n.early entered.1 others sound issue_change) ∙ entered.1.holds
+    held_now = ap is_held (entry_new a ks₁ ks' (lists h) new (releases h) u w x.holds exempt_inv wants unissued n.early entered.added others sound issue_change) ∙ entered.added.holds
 
     jobs : (q : ℕ) → (ks' q).job ≡ (ks₁ q).job
     jobs = same_job ks₁ ks' u _ issue_change refl
@@ -192,11 +192,11 @@ module _ (a : Setup) (h : History) (i : InvOf a h) (p : ℕ) (free : wanted p h 
         go true g = rw (g, e) refl
         go false g =
             rw (g, e) (ap (λ (s : State). record { state = s; release = unwrap_or (job q h) 0; used = used q h; blocked = (words_of a h q).blocked })
-            (state_same a (releases h) q (words_of a h q) (lists h) new (i.tasks q) (entered_others a u w.resource (lists h) new entered.1.request entered.1.list entered.1.party others q e)))
+            (state_same a (releases h) q (words_of a h q) (lists h) new (i.tasks q) (entered_others a u w.resource (lists h) new entered.added.request entered.added.list entered.added.party others q e)))
 
     pub next_stepped : Stepped a (finished p (Ok e₁)) new h
     next_stepped = record {
-      inv = issue_step a ks₁ ks' (lists h) new (releases h) u w x.holds exempt_inv wants unissued n.early entered.1 others sound issue_change;
+      inv = issue_step a ks₁ ks' (lists h) new (releases h) u w x.holds exempt_inv wants unissued n.early entered.added others sound issue_change;
       agrees = each_task ks₁ ks' u _ issue_change (λ q k. task_of q k new ≡ issued_task (Some x) q (cond (eqb p q) idle_task ((after a h).tasks q))) self_agrees other_agrees;
       stays = λ t g e. first_jobs a ks₁ ks' (lists h) new jobs t ∙ ends_first t e g;
     }

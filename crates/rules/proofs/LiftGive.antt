@@ -89,7 +89,7 @@ module _ (a : Setup) (set : Setting a) (h : History) (i : InvOf a h) (new : List
   at = record { wanted = shape.wanted; is = shape.is; there = there; issued = shape.issued }
 
   others : (q : ℕ) → q < a.resources → (q ≡ r → ⊥) → new q ≡ lists h q
-  others q l ne = d.gives.1.2 q (subst (λ (z : ℕ). q < z) (sym (set.resources (omega (arith, accepted.0)))) l) ne
+  others q l ne = d.gives.1.others q (subst (λ (z : ℕ). q < z) (sym (set.resources (omega (arith, accepted.0)))) l) ne
 
   abbrev ks' : ℕ → TaskWords
   ks' = words_of a (called h (gave p (Ok m)) new)
@@ -103,14 +103,14 @@ module _ (a : Setup) (set : Setting a) (h : History) (i : InvOf a h) (new : List
   other : (q : ℕ) → eqb p q ≡ false → task_of q (words_of a h q) new ≡ let_in r (new r) q (task_of q (words_of a h q) (lists h))
   other q e =
       let_in_other r q new (unwrap_or (job q h) 0) (used q h) (words_of a h q).blocked (job q h) (wanted q h) (issued q h) (held_in q (words_of a h q) (lists h)) (held_in q (words_of a h q) new)
-      (λ f g. left_held a set.known (words_of a h) ks' (lists h) new (releases h) p r i lr at shape.held d.gives.1.1 others sound changed q e g)
+      (λ f g. left_held a set.known (words_of a h) ks' (lists h) new (releases h) p r i lr at shape.held d.gives.1.stay others sound changed q e g)
       (λ f. (i.tasks q).unused f)
       (λ w x y z. entry_at q w new x y ∙ ap (λ (k : ℕ). is_held (request_of q (new k))) z)
       (λ w x y ne. entry_at q w new x y ∙ ap (λ (xs : List Request). is_held (request_of q xs)) (others w.resource ((i.tasks q).placed w x).there ne) ∙ sym (entry_at q w (lists h) x y))
 
   pub gave_stepped : Stepped a (gave p (Ok m)) new h
   gave_stepped = record {
-    inv = give_step a set.known (words_of a h) ks' (lists h) new (releases h) p r i lr at shape.held d.gives.1.1 others sound changed;
+    inv = give_step a set.known (words_of a h) ks' (lists h) new (releases h) p r i lr at shape.held d.gives.1.stay others sound changed;
     agrees = each_task (words_of a h) ks' p _ changed (λ q k. task_of q k new ≡ let_in r (new r) q (cond (eqb p q) (in_state Going (task_of q (words_of a h q) (lists h))) (task_of q (words_of a h q) (lists h))))
         (rw (eq-eqb p p refl) (ap (λ (st : State). record { state = st; release = unwrap_or (job p h) 0; used = 0; blocked = (words_of a h p).blocked }) (going_state (job p h) shape.job)))
         (λ q e. rw e (other q e));

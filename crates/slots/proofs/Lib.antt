@@ -1,4 +1,5 @@
 pub mod Changes
+pub mod Exact
 pub mod Meaning
 pub mod Places
 pub mod Requests

@@ -10,7 +10,7 @@ use Rattle.bank.specs.declared.request.Request.{Request}
 use Rattle.bank.specs.Lists.{any, holders, holds, is_active, holds_by, is_holder, request_of, without}
 use Rattle.bank.specs.Meaning.{Stays}
 use Rattle.slots.specs.Lines.{request_at, requests_from, requests}
-use Rattle.slots.specs.Of.{waits}
+use Rattle.slots.specs.Slots.{waits}
 use Rattle.slots.specs.Rows.{place}
 use Rattle.slots.specs.Requests.{waiting, at_front, in_line, holders_of_lem}
 

@@ -1,6 +1,6 @@
 pub mod Limits
 pub mod Lines
-pub mod Of
-pub mod Rows
-pub mod Requests
 pub mod Meaning
+pub mod Requests
+pub mod Rows
+pub mod Slots

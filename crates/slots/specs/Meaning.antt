@@ -4,7 +4,8 @@ use Rattle.std.proofs.Common.{◌-◌, arith, div-le_self}
 use Rattle.std.specs.List.{AllByRecursion}
 use Rattle.std.proofs.ByRecursion.{All-from_get_or}
 use Rattle.bank.specs.Meaning.{Small, Sound}
-use Rattle.slots.specs.Of.{holders_of, parties_of, told_of, active_of}
+use Rattle.bank.specs.declared.size.TheConstants.{PARTIES}
+use Rattle.slots.specs.Slots.{holders_of, parties_of, told_of, active_of}
 use Rattle.slots.specs.declared.slots.Slots.{Slots}
 use Rattle.slots.specs.Requests.{limit_is, requests_sound}
 
@@ -20,5 +21,5 @@ is_small s =
 pub is_sound : (s : Slots) (r : ℕ) → r < s.count → Sound (told_of s) r (active_of s r)
 is_sound s r l =
     let kept = s.kept r (omega arith) in
-    let small : AllByRecursion (λ p. p < 64) (parties_of s r) = All-from_get_or (λ p. p < 64) (parties_of s r) 0 kept.1 in
+    let small : AllByRecursion (λ p. p < PARTIES) (parties_of s r) = All-from_get_or (λ p. p < PARTIES) (parties_of s r) 0 kept.1 in
     requests_sound (told_of s) r s.seats (holders_of s r) (parties_of s r) refl refl (s.sized.1 r l) small kept.0

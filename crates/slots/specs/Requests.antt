@@ -4,6 +4,7 @@ use Rattle.std.proofs.Common.{sym, ap, subst, ◌∙◌, ⊎_elim, arith, add-mu
 use Rattle.std.proofs.Math.Nat.{add-div_right}
 use Rattle.std.specs.List.{AllByRecursion}
 use Rattle.std.proofs.lemmas.Bool.{cases_lt, cond-true, cond-false, lt-ltb, le-ltb, both_ways}
+use Rattle.bank.specs.declared.size.TheConstants.{PARTIES}
 use Rattle.bank.specs.declared.request.Mode.TheVariants.{Write}
 use Rattle.bank.specs.declared.request.Request.{Request}
 use Rattle.bank.specs.Lists.{count, holders, holds, holds_write, holds_read}
@@ -61,7 +62,7 @@ turns_few m k i pos l few =
     omega (arith, limit_is m k (omega arith) pos)
 
 -- at most k in mode W hold, beside no reader, and a waiting request has k holders before it
-lawful_at : (t : Told) (r m k h i p : ℕ) → t.limit r Write ≡ turn_limit m k → 1 ≤ k → p < 64 → i < m → (k ≤ i → k ≤ h) → Lawful t r h (request_at k i p)
+lawful_at : (t : Told) (r m k h i p : ℕ) → t.limit r Write ≡ turn_limit m k → 1 ≤ k → p < PARTIES → i < m → (k ≤ i → k ≤ h) → Lawful t r h (request_at k i p)
 lawful_at t r m k h i p limit pos small few full =
     ⊎_elim
     (λ (f : i < k). subst (Lawful t r h) (sym (at_front k i p f)) (record { party = small; known = refl; holding = λ _. (refl, refl); waiting = λ e. absurd (both_ways true e refl) }))
@@ -75,11 +76,11 @@ lawful_at t r m k h i p limit pos small few full =
     }))
     (cases_lt i k)
 
-all_lawful : (t : Told) (r m k h i : ℕ) (ps : List ℕ) → t.limit r Write ≡ turn_limit m k → 1 ≤ k → AllByRecursion (λ p. p < 64) ps → i + length ps ≤ m → (k < i + length ps → k ≤ h) → AllByRecursion (Lawful t r h) (requests_from k i ps)
+all_lawful : (t : Told) (r m k h i : ℕ) (ps : List ℕ) → t.limit r Write ≡ turn_limit m k → 1 ≤ k → AllByRecursion (λ p. p < PARTIES) ps → i + length ps ≤ m → (k < i + length ps → k ≤ h) → AllByRecursion (Lawful t r h) (requests_from k i ps)
 all_lawful t r m k h i [] limit pos small few full = tt
 all_lawful t r m k h i (p ∷ ps) limit pos small few full = (lawful_at t r m k h i p limit pos small.0 (omega arith) (λ l. full (omega arith)), all_lawful t r m k h (i + 1) ps limit pos small.1 (omega arith) (λ l. full (omega arith)))
 
-pub requests_sound : (t : Told) (r m k : ℕ) (ps : List ℕ) → t.limit r Write ≡ turn_limit m k → t.slots r ≡ k → 1 ≤ k → AllByRecursion (λ p. p < 64) ps → length ps ≤ m → Sound t r (requests k ps)
+pub requests_sound : (t : Told) (r m k : ℕ) (ps : List ℕ) → t.limit r Write ≡ turn_limit m k → t.slots r ≡ k → 1 ≤ k → AllByRecursion (λ p. p < PARTIES) ps → length ps ≤ m → Sound t r (requests k ps)
 requests_sound t r m k ps limit slots pos small few =
     let h = holders_of_lem k 0 ps in
     let w = count_held holds_write (λ p. refl) (λ k i p. refl) k 0 ps in

@@ -1,17 +1,19 @@
 ghost use Rattle.std.specs.Prelude.{◌≡◌, ◌<◌, ◌≤◌, ◌==◌, [], ◌∷◌, ◌++◌, length, position, is_some, IfSome};
 ghost use Rattle.std.specs.List.{remove, slice_get};
+ghost use Rattle.bank.specs.declared.size.TheConstants.{PARTIES};
 ghost use Rattle.bank.specs.Lists.{is_active, is_holder, request_of};
 ghost use Rattle.slots.specs.Lines.{request_at, requests};
 ghost use Rattle.slots.specs.Rows.{row, place};
 
 use bank::request::{Mode, Request, Standing};
+use bank::size::PARTIES;
 use byte_vec::byte_vec::ByteVec;
 
 /// A resource with so many slots, and its parties in order of entry.
 #[derive(Clone, Copy, Debug, PartialEq, Eq)]
 pub struct Line {
     pub(crate) slots: u8,
-    pub(crate) parties: ByteVec<64>,
+    pub(crate) parties: ByteVec<PARTIES>,
 }
 
 impl Line {
@@ -37,7 +39,7 @@ impl Line {
     pub(crate) fn find(&self, party: u8) -> Option<usize>
         ensures place { result ≡ position (λ q. q == party) (row self.now) }
         ensures here { IfSome result (λ i. i < length (row self.now)) }
-        ensures within { IfSome result (λ place. place < 64) }
+        ensures within { IfSome result (λ place. place < PARTIES) }
     {
         self.parties.as_slice().iter().position(|q| *q == party)
     }
@@ -52,8 +54,8 @@ impl Line {
     // The place of a party that holds, if it does.
     pub(crate) fn holder(&self, party: u8) -> Option<usize>
         ensures holds { is_some result ≡ is_holder party (requests self.now.slots (row self.now)) }
-        ensures place { IfSome result (λ i. (i ≡ place party (row self.now)) × (i < length (row self.now))) }
-        ensures here { IfSome result (λ i. i < length (row self.now)) }
+        ensures place { IfSome result (λ i. i ≡ place party (row self.now)) }
+        ensures here { IfSome result (λ i. (i < length (row self.now)) × (i < self.now.slots)) }
     {
         let place = self.find(party)?;
         (place < self.slots as usize).then_some(place)
@@ -61,7 +63,7 @@ impl Line {
 
     // The request of a party at a place.
     fn request(&self, place: usize, party: u8) -> Request
-        requires { (1 ≤ self.now.slots) × (place ≤ 64) }
+        requires { (1 ≤ self.now.slots) × (place ≤ PARTIES) }
         ensures { result ≡ request_at self.now.slots place party }
     {
         let k = self.holders();
@@ -102,7 +104,7 @@ impl Line {
 
     // A party more at the end.
     pub(crate) fn push(&mut self, party: u8)
-        requires { length (row self.old) < 64 }
+        requires { length (row self.old) < PARTIES }
         ensures slots { self.new.slots ≡ self.old.slots }
         ensures row { row self.new ≡ row self.old ++ (party ∷ []) }
     {

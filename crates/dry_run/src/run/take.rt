@@ -8,7 +8,7 @@ ghost use Rattle.dry_run.specs.Made.{MadeFrom};
 ghost use Rattle.dry_run.specs.Said.{preamble_text, refused_text};
 ghost use Rattle.dry_run.specs.declared.run.Phase.TheVariants.{Plan as InPlan, Events as InEvents, Over as IsOver};
 
-use crate::banks::banks_of;
+use crate::banks::{PlanBanks, banks_of};
 use crate::line::answer_line;
 use crate::preamble::lay_preamble;
 use crate::refused::{lay_no_end, lay_refused};
@@ -16,16 +16,13 @@ use crate::run::{DryRun, Phase};
 use byte_vec::byte_vec::{ByteVec, Full};
 use controller::controller::Controller;
 use event::read::read_call;
-use pair::pair::Pair;
 use plan::plan::Plan;
 use plan_text::read::read;
-use readers_writers::lines::ReadersWriters;
 use rules::call::Call;
-use slots::slots::Slots;
 use text::refusal::Refusal;
 
 // The plan is accepted: its controller, and the end of the lines before the events.
-fn accept(plan: &Plan, out: &mut [u8]) -> (Controller<Pair<Slots, ReadersWriters>>, usize)
+fn accept(plan: &Plan, out: &mut [u8]) -> (Controller<PlanBanks>, usize)
     requires { 1040 ≤ length out.old }
     ensures laid { Laid out.old 0 (preamble_text (plan_contents plan.now)) result.1 out.new }
     ensures few { result.1 ≤ 1040 }
@@ -37,10 +34,7 @@ fn accept(plan: &Plan, out: &mut [u8]) -> (Controller<Pair<Slots, ReadersWriters
 }
 
 // The controller of a plan that an empty line ended, if the plan is accepted, and the end of what is printed.
-fn behind_plan(
-    text: &[u8],
-    out: &mut [u8],
-) -> (Option<Controller<Pair<Slots, ReadersWriters>>>, usize)
+fn behind_plan(text: &[u8], out: &mut [u8]) -> (Option<Controller<PlanBanks>>, usize)
     requires { 1040 ≤ length out.old }
     ensures takes { Takes (run_in (InPlan text.now true)) (run_in (phase_behind result.0)) (10 ∷ []) out.old 0 result.1 out.new }
     ensures few { result.1 ≤ 1040 }
@@ -92,7 +86,7 @@ fn read_line(kept: &ByteVec<16>, rest: &[u8]) -> Result<Call, Refusal>
 
 // A line of events, or the rest of one.
 fn take_event_line(
-    controller: &mut Controller<Pair<Slots, ReadersWriters>>,
+    controller: &mut Controller<PlanBanks>,
     kept: &mut ByteVec<16>,
     rest: &[u8],
     out: &mut [u8],

@@ -1,9 +1,8 @@
-ghost use Rattle.std.specs.Prelude.{◌≡◌};
-ghost use Rattle.bank.specs.Meaning.{Enters, Leaves, Keeps};
-ghost use Rattle.readers_writers.specs.Banks.{told_of, active_of};
-ghost use Rattle.readers_writers.specs.Exactly.{EntersExactly, LeavesExactly};
-ghost use Rattle.readers_writers.specs.Of.{Settled, entries_of};
-ghost use Rattle.readers_writers.specs.ReadersWritersBankLemmas.{is_small, is_sound};
+ghost use Rattle.std.specs.Prelude.{length};
+ghost use Rattle.bank.specs.Meaning.{ChangesBy};
+ghost use Rattle.bank.specs.Questions.{TellsAt};
+ghost use Rattle.readers_writers.specs.Meaning.{is_small, is_sound};
+ghost use Rattle.readers_writers.specs.ReadersWriters.{told_of, active_of, Settled, EntersExactly, LeavesExactly};
 
 use crate::lines::ReadersWriters;
 use bank::meaning::Bank;
@@ -16,9 +15,9 @@ impl Bank for ReadersWriters {
 
     ghost active = { active_of };
 
-    ghost entered = { λ r p m result old new. EntersExactly r p m result old.lines new.lines };
+    ghost entered = { λ r p m result old new. ChangesBy (EntersExactly r p m) result old new };
 
-    ghost left = { λ r p result old new. LeavesExactly r p result old.lines new.lines };
+    ghost left = { λ r p result old new. ChangesBy (λ done. LeavesExactly r p) result old new };
 
     ghost small = { is_small };
 
@@ -50,7 +49,11 @@ impl Bank for ReadersWriters {
         }
     }
 
-    fn count(&self, resource: u32) -> Result<u32, Refusal> {
+    #[tactic(auto, using(crate::proofs::Meaning::settles))]
+    fn count(&self, resource: u32) -> Result<u32, Refusal>
+        ensures tells { TellsAt (told_of self.now) resource (length (active_of self.now resource)) result }
+        ensures settled { Settled self.now }
+    {
         let at = index(resource, self.count)?;
         Ok(self.lines[at].active())
     }
@@ -66,23 +69,13 @@ impl Bank for ReadersWriters {
         Ok(self.lines[at].request_of(party as u8))
     }
 
-    fn enter(&mut self, resource: u32, party: u32, mode: Mode) -> Result<bool, Refusal>
-        ensures told { told_of self.new ≡ told_of self.old }
-        ensures enters { Enters (told_of self.old) resource party mode result (active_of self.old) (active_of self.new) }
-        ensures keeps { Keeps result self.old self.new }
-        ensures exact { EntersExactly resource party mode result self.old.lines self.new.lines }
-        ensures settled { Settled self.new.lines self.new.count }
-    {
+    #[tactic(auto, using(crate::proofs::Meaning::enters_exactly))]
+    fn enter(&mut self, resource: u32, party: u32, mode: Mode) -> Result<bool, Refusal> {
         self.enter_line(resource, party, mode)
     }
 
-    fn leave(&mut self, resource: u32, party: u32) -> Result<(), Refusal>
-        ensures told { told_of self.new ≡ told_of self.old }
-        ensures leaves { Leaves (told_of self.old) resource party result (active_of self.old) (active_of self.new) }
-        ensures keeps { Keeps result self.old self.new }
-        ensures exact { LeavesExactly resource party result self.old.lines self.new.lines }
-        ensures settled { Settled self.new.lines self.new.count }
-    {
+    #[tactic(auto, using(crate::proofs::Meaning::leaves_exactly))]
+    fn leave(&mut self, resource: u32, party: u32) -> Result<(), Refusal> {
         self.leave_line(resource, party)
     }
 }

@@ -1,7 +1,6 @@
-ghost use Rattle.std.specs.Prelude.{◌≡◌};
-ghost use Rattle.bank.specs.Meaning.{Enters, Leaves, Keeps};
-ghost use Rattle.readers_writers.specs.Banks.{told_of, active_of};
-ghost use Rattle.readers_writers.specs.Exactly.{EntersExactly, LeavesExactly};
+ghost use Rattle.bank.specs.Meaning.{ChangesBy};
+ghost use Rattle.bank.specs.Questions.{refused_by};
+ghost use Rattle.readers_writers.specs.ReadersWriters.{EnterAsked, LeaveAsked, EntersExactly, LeavesExactly};
 
 use crate::lines::ReadersWriters;
 use bank::place::{check_party, index};
@@ -16,10 +15,8 @@ impl ReadersWriters {
         party: u32,
         mode: Mode,
     ) -> Result<bool, Refusal>
-        ensures told { told_of self.new ≡ told_of self.old }
-        ensures enters { Enters (told_of self.old) resource party mode result (active_of self.old) (active_of self.new) }
-        ensures keeps { Keeps result self.old self.new }
-        ensures exact { EntersExactly resource party mode result self.old.lines self.new.lines }
+        ensures asks { EnterAsked self.old resource party mode (refused_by result) }
+        ensures exact { ChangesBy (EntersExactly resource party mode) result self.old self.new }
     {
         let at = index(resource, self.count)?;
         check_party(party)?;
@@ -35,11 +32,10 @@ impl ReadersWriters {
     }
 
     // Removes a holder that may leave.
+    #[tactic(auto, using(crate::proofs::Positions::holds_at))]
     pub(crate) fn leave_line(&mut self, resource: u32, party: u32) -> Result<(), Refusal>
-        ensures told { told_of self.new ≡ told_of self.old }
-        ensures leaves { Leaves (told_of self.old) resource party result (active_of self.old) (active_of self.new) }
-        ensures keeps { Keeps result self.old self.new }
-        ensures exact { LeavesExactly resource party result self.old.lines self.new.lines }
+        ensures asks { LeaveAsked self.old resource party (refused_by result) }
+        ensures exact { ChangesBy (λ done. LeavesExactly resource party) result self.old self.new }
     {
         let at = index(resource, self.count)?;
         check_party(party)?;

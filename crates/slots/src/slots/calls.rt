@@ -1,6 +1,7 @@
-ghost use Rattle.std.specs.Prelude.{◌≡◌};
-ghost use Rattle.bank.specs.Meaning.{Enters, Leaves, Keeps};
-ghost use Rattle.slots.specs.Of.{told_of, active_of, Full, EntersLast, LeavesPlace, NextHolds};
+ghost use Rattle.std.specs.Prelude.{length};
+ghost use Rattle.bank.specs.Meaning.{ChangesBy};
+ghost use Rattle.bank.specs.Questions.{TellsAt};
+ghost use Rattle.slots.specs.Slots.{told_of, active_of, Full, EntersLast, LeavesPlace};
 ghost use Rattle.slots.specs.Meaning.{is_small, is_sound};
 
 use crate::slots::Slots;
@@ -14,9 +15,9 @@ impl Bank for Slots {
 
     ghost active = { λ s r. active_of s r };
 
-    ghost entered = { λ r p m result old new. EntersLast r p result old new };
+    ghost entered = { λ r p m result old new. ChangesBy (EntersLast r p) result old new };
 
-    ghost left = { λ r p result old new. LeavesPlace r p result old new };
+    ghost left = { λ r p result old new. ChangesBy (λ done. LeavesPlace r p) result old new };
 
     ghost small = { is_small };
 
@@ -51,7 +52,11 @@ impl Bank for Slots {
         }
     }
 
-    fn count(&self, resource: u32) -> Result<u32, Refusal> {
+    #[tactic(auto, using(crate::proofs::Meaning::is_full))]
+    fn count(&self, resource: u32) -> Result<u32, Refusal>
+        ensures tells { TellsAt (told_of self.now) resource (length (active_of self.now resource)) result }
+        ensures full { Full self.now }
+    {
         let at = index(resource, self.count)?;
         Ok(self.lines[at].size())
     }
@@ -67,26 +72,13 @@ impl Bank for Slots {
         Ok(self.lines[at].request_of(party as u8))
     }
 
-    #[tactic(auto, using(crate::proofs::Meaning::enters_last, crate::proofs::Meaning::is_full))]
-    fn enter(&mut self, resource: u32, party: u32, mode: Mode) -> Result<bool, Refusal>
-        ensures told { told_of self.new ≡ told_of self.old }
-        ensures enters { Enters (told_of self.old) resource party mode result (active_of self.old) (active_of self.new) }
-        ensures keeps { Keeps result self.old self.new }
-        ensures exact { EntersLast resource party result self.old self.new }
-        ensures full { Full self.new }
-    {
+    #[tactic(auto, using(crate::proofs::Meaning::enters_last))]
+    fn enter(&mut self, resource: u32, party: u32, mode: Mode) -> Result<bool, Refusal> {
         self.take_in(resource, party, mode)
     }
 
-    #[tactic(auto, using(crate::proofs::Meaning::leaves_place, crate::proofs::Meaning::next_holds, crate::proofs::Meaning::is_full))]
-    fn leave(&mut self, resource: u32, party: u32) -> Result<(), Refusal>
-        ensures told { told_of self.new ≡ told_of self.old }
-        ensures leaves { Leaves (told_of self.old) resource party result (active_of self.old) (active_of self.new) }
-        ensures keeps { Keeps result self.old self.new }
-        ensures exact { LeavesPlace resource party result self.old self.new }
-        ensures next { NextHolds resource party result self.old self.new }
-        ensures full { Full self.new }
-    {
+    #[tactic(auto, using(crate::proofs::Meaning::leaves_place))]
+    fn leave(&mut self, resource: u32, party: u32) -> Result<(), Refusal> {
         self.let_out(resource, party)
     }
 }

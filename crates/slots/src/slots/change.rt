@@ -1,7 +1,6 @@
-ghost use Rattle.std.specs.Prelude.{◌≡◌};
-ghost use Rattle.text.specs.Questions.{first_no};
-ghost use Rattle.bank.specs.Questions.{enter_questions, leave_questions};
-ghost use Rattle.slots.specs.Of.{told_of, active_of, refused_by, EntersLast, LeavesPlace};
+ghost use Rattle.bank.specs.Meaning.{ChangesBy};
+ghost use Rattle.bank.specs.Questions.{refused_by};
+ghost use Rattle.slots.specs.Slots.{EnterAsked, LeaveAsked, EntersLast, LeavesPlace};
 
 use crate::slots::Slots;
 use bank::place::{check_party, index};
@@ -11,9 +10,8 @@ use bank::request::Mode;
 impl Slots {
     // Puts a party that may enter at the end; tells whether it holds.
     pub(crate) fn take_in(&mut self, resource: u32, party: u32, mode: Mode) -> Result<bool, Refusal>
-        ensures told { told_of self.new ≡ told_of self.old }
-        ensures asks { first_no (enter_questions (told_of self.old) resource party mode (active_of self.old resource)) ≡ refused_by result }
-        ensures exact { EntersLast resource party result self.old self.new }
+        ensures asks { EnterAsked self.old resource party mode (refused_by result) }
+        ensures exact { ChangesBy (EntersLast resource party) result self.old self.new }
     {
         let at = index(resource, self.count)?;
         if mode == Mode::Read {
@@ -35,9 +33,8 @@ impl Slots {
 
     // Removes a party that may leave.
     pub(crate) fn let_out(&mut self, resource: u32, party: u32) -> Result<(), Refusal>
-        ensures told { told_of self.new ≡ told_of self.old }
-        ensures asks { first_no (leave_questions (told_of self.old) resource party (active_of self.old resource)) ≡ refused_by result }
-        ensures exact { LeavesPlace resource party result self.old self.new }
+        ensures asks { LeaveAsked self.old resource party (refused_by result) }
+        ensures exact { ChangesBy (λ done. LeavesPlace resource party) result self.old self.new }
     {
         let at = index(resource, self.count)?;
         check_party(party)?;

@@ -17,7 +17,7 @@ use Rattle.controller.proofs.Tasks.{each_set, task_here, tasks_written, tasks_mo
 use Rattle.controller.proofs.controller.Controller.do_finish.Goals as goal
 
 pub returns-in_err-holds-clause-keeps : goal.returns-in_err-holds-clause-keeps
-returns-in_err-holds-clause-keeps g c = rw ((err_from_is_err_and c.from_residual-in_err-holds.result c.from_residual-in_err-holds.ensures.1).1) (same_controllers _ c.args.self.now refl refl refl refl refl refl refl c.in_err-holds.ensures.keeps)
+returns-in_err-holds-clause-keeps g c = rw ((err_from_is_err_and c.from_residual-in_err-holds.result c.from_residual-in_err-holds.ensures.1).1) (same_controllers _ c.args.self.now refl refl refl refl refl refl refl c.in_err-holds.ensures.enters.keeps)
 
 pub returns-in_err-holds-clause-does : goal.returns-in_err-holds-clause-does
 returns-in_err-holds-clause-does g c =
@@ -32,7 +32,7 @@ returns-in_err-holds-clause-does g c =
     let wanted : c.wanted_of-wanted.result ≡ wanted_of (s.tasks u).state = c.wanted_of-wanted.ensures ∙ ap (λ (k : Task). wanted_of k.state) (c.get-job.ensures ∙ sym (task_here self.tasks self.table.records.rows u next.known)) in
     let p = err_from_is_err_and c.from_residual-in_err-holds.result c.from_residual-in_err-holds.ensures.1 in
     rw (p.1, p.2) (record {
-      answered = finish_refused a s t c.in_ok-state.ensures.0 u c.in_err-holds.field-0.0 c.wanted_of-wanted.result _ c.in-Some.ensures wanted e.enters (ap b.active e.keeps);
+      answered = finish_refused a s t c.in_ok-state.ensures.0 u c.in_err-holds.field-0.0 c.wanted_of-wanted.result _ c.in-Some.ensures wanted e.enters.lists (ap b.active e.enters.keeps);
       tasks = λ q. refl;
       clock = refl;
       releases = refl;
@@ -107,7 +107,7 @@ returns-clause-does g c =
     ∙ ap issued (c.get-job.ensures ∙ sym other)) in
     let wanted : c.wanted_of-wanted.result ≡ wanted_of (s.tasks u).state = c.wanted_of-wanted.ensures ∙ ap (λ (k : Task). wanted_of k.state) (c.get-job.ensures ∙ sym (task_here self.tasks rows u next.known)) in
     record {
-      answered = finish_issued a s t own c.get-blocked.result.blocked u c.in_ok-holds.holds c.wanted_of-wanted.result _ c.in-Some.ensures (ap (λ (k : Task). k.blocked) (c.get-blocked.ensures ∙ sym (task_here self.tasks rows t lt))) wanted c.in_ok-holds.ensures.enters;
+      answered = finish_issued a s t own c.get-blocked.result.blocked u c.in_ok-holds.holds c.wanted_of-wanted.result _ c.in-Some.ensures (ap (λ (k : Task). k.blocked) (c.get-blocked.ensures ∙ sym (task_here self.tasks rows t lt))) wanted c.in_ok-holds.ensures.enters.lists;
       tasks = λ q. tasks_moved self.tasks rows2 rows3 u issued next.known self.few_tasks c.store-2.new.self.all_records (c.store-3.ensures.stored there ∙ ap (set rows2 u) new) q
           ∙ ap (λ (k : Task). cond (eqb u q) (issued k) k) (tasks_written self.tasks rows rows2 t idle_task lt self.few_tasks self.table.all_records ended q);
       clock = refl;

@@ -1,7 +1,7 @@
 use Rattle.std.proofs.Common.{sym, ap, subst}
 use Rattle.plan.specs.Of.{plan_contents}
-use Rattle.dry_run.specs.Banks.{BanksOf}
-use Rattle.dry_run.specs.Made.{meaning, setup, snapshot}
+use Rattle.dry_run.specs.Banks.{BanksOf, meaning}
+use Rattle.dry_run.specs.Made.{setup, snapshot}
 use Rattle.dry_run.proofs.Fits.{made_fitting}
 use Rattle.dry_run.proofs.run.take.accept.Goals as goal
 

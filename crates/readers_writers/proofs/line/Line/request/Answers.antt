@@ -6,7 +6,7 @@ use Rattle.bank.specs.declared.request.Request.{Request}
 use Rattle.bank.specs.declared.request.Standing.{Standing}
 use Rattle.readers_writers.specs.declared.entry.Entry.{Entry}
 use Rattle.readers_writers.specs.Lines.{some, count_of, is_holder, is_writer, holding_writer, turns, request_of, requests}
-use Rattle.readers_writers.specs.Of.{list_of}
+use Rattle.readers_writers.specs.Limits.{list_of}
 use Rattle.readers_writers.proofs.PlacesLemmas.{request_at_lem, length_requests}
 use Rattle.readers_writers.proofs.Positions.{count_is}
 use Rattle.readers_writers.proofs.line.Line.request.Goals as goal

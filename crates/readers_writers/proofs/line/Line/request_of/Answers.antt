@@ -1,7 +1,7 @@
 use Rattle.std.proofs.Common.{◌≡◌, length, sym, ◌∙◌, arith}
 use Rattle.std.proofs.lemmas.Option.{slice_get_past}
 use Rattle.readers_writers.specs.Lines.{requests}
-use Rattle.readers_writers.specs.Of.{list_of}
+use Rattle.readers_writers.specs.Limits.{list_of}
 use Rattle.readers_writers.proofs.PlacesLemmas.{request_of_lem, length_requests}
 use Rattle.readers_writers.proofs.Positions.{missing, place_past}
 use Rattle.readers_writers.proofs.line.Line.request_of.Goals as goal

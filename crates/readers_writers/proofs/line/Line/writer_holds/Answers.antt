@@ -1,7 +1,7 @@
 use Rattle.std.proofs.Common.{◌≡◌, length, get_or, slice_set, sym, ap, ◌∙◌}
 use Rattle.std.proofs.lemmas.List.{length-set, set_past}
 use Rattle.readers_writers.specs.Lines.{is_writer}
-use Rattle.readers_writers.specs.Of.{list_of}
+use Rattle.readers_writers.specs.Limits.{list_of}
 use Rattle.readers_writers.specs.Places.{blank}
 use Rattle.readers_writers.proofs.PlacesLemmas.{writer_at}
 use Rattle.readers_writers.proofs.Pushed.{held}

@@ -1,11 +1,12 @@
-use Rattle.std.proofs.Common.{◌≡◌, ℕ, true, ◌+◌, ◌<◌, ◌≤◌, List, [], ◌∷◌, length, get_or, sum, sym, ap, refl, subst, ⊎_elim, arith}
+use Rattle.std.proofs.Common.{◌≡◌, ℕ, true, ◌+◌, ◌<◌, ◌≤◌, List, [], ◌∷◌, length, get_or, sum, sym, ap, ◌∙◌, refl, subst, ⊎_elim, arith}
 use Rattle.std.proofs.lemmas.Bool.{cases_lt}
 use Rattle.std.proofs.lemmas.List.{get_or_past}
 use Rattle.std.proofs.lemmas.List.Sums.{sum_by-cons}
 use Rattle.plan.proofs.Rows.{processors_few}
+use Rattle.readers_writers.specs.Told.{told_with}
 use Rattle.readers_writers.specs.Kept.{named, good}
 use Rattle.readers_writers.specs.declared.line.Line.{Line}
-use Rattle.readers_writers.specs.Of.{list_of, bare, Keeping}
+use Rattle.readers_writers.specs.Limits.{list_of, bare, Keeping}
 use Rattle.readers_writers.proofs.lines.ReadersWriters.new.Goals as goal
 
 some_processor : (xs : List ℕ) → 0 < length xs → 1 ≤ get_or xs 0 0 → 1 ≤ sum xs
@@ -31,5 +32,8 @@ invariant_of-result c =
       kept = λ r l. keep_free _ _ (c.default.ensures.at r bare (omega arith));
     }
 
-pub returns-clause-free : goal.returns-clause-free
-returns-clause-free c = λ r. ⊎_elim (λ l. c.default.ensures.at r bare l) (λ l. ap list_of (get_or_past c.default.result r bare (omega (arith, c.default.ensures.long)))) (cases_lt r 16)
+pub returns : goal.returns
+returns c = record {
+  told = ap (λ n. told_with n c.all_processors-seats.result) c.reader_writers-count.ensures.value ∙ ap (told_with c.args.plan.now.tables.reader_writers) c.all_processors-seats.ensures;
+  nobody = λ r. ⊎_elim (λ l. c.default.ensures.at r bare l) (λ l. ap list_of (get_or_past c.default.result r bare (omega (arith, c.default.ensures.long)))) (cases_lt r 16);
+}

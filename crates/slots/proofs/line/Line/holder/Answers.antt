@@ -1,4 +1,5 @@
 use Rattle.std.proofs.Common.{◌≡◌, ℕ, ◌+◌, ◌<◌, ◌&&◌, Bool, true, false, nat_lt, is_some, length, refl, ap, sym, subst, ◌∙◌, arith}
+use Rattle.std.proofs.lemmas.Bool.{ltb-true}
 use Rattle.std.proofs.lemmas.Bool.Decides.{nat_tests}
 use Rattle.std.specs.Bool.{then_some}
 use Rattle.std.specs.Option.{IfSome}
@@ -20,8 +21,8 @@ some_then : (b : Bool) (i : ℕ) → is_some (then_some b i) ≡ b
 some_then true i = refl
 some_then false i = refl
 
-if_then : (b : Bool) (i : ℕ) (P : ℕ → Type 0) → P i → IfSome (then_some b i) P
-if_then true i P h = h
+if_then : (b : Bool) (i : ℕ) (P : ℕ → Type 0) → (b ≡ true → P i) → IfSome (then_some b i) P
+if_then true i P h = h refl
 if_then false i P h = tt
 
 pub returns : goal.returns
@@ -35,10 +36,10 @@ returns c =
     let is = f.1 in
     let b = nat_lt i l.slots in
     let both : b ≡ (nat_lt (place p ps) (length ps) && nat_lt (0 + place p ps) l.slots) = grind (arith, nat_tests) in
-    let P : ℕ → Type 0 = λ i. (i ≡ place p ps) × (i < length ps) in
-    let Q : ℕ → Type 0 = λ i. i < length ps in
+    let P : ℕ → Type 0 = λ i. i ≡ place p ps in
+    let Q : ℕ → Type 0 = λ i. (i < length ps) × (i < l.slots) in
     record {
       holds = ap is_some c.then_some.ensures ∙ (some_then b i ∙ (both ∙ sym (holder_is l.slots 0 p ps)));
-      place = subst (λ o. IfSome o P) (sym c.then_some.ensures) (if_then b i P (is, omega arith));
-      here = subst (λ o. IfSome o Q) (sym c.then_some.ensures) (if_then b i Q (omega arith));
+      place = subst (λ o. IfSome o P) (sym c.then_some.ensures) (if_then b i P (λ z. is));
+      here = subst (λ o. IfSome o Q) (sym c.then_some.ensures) (if_then b i Q (λ z. (omega arith, ltb-true _ _ z)));
     }

@@ -13,6 +13,6 @@ invariant_of-result c =
     record {
       seated = (omega (arith, t.clusters_sized 0 one), omega (arith, processors_few t.clusters t.few_clusters t.clusters_sized));
       held = o.long;
-      sized = (omega arith, λ r l. let lt : r < length t.slots = omega arith in omega (arith, o.each r l, t.slots_sized r lt));
+      sized = (omega arith, λ r l. let lt : r < length t.slots = omega arith in omega (arith, o.each r, t.slots_sized r lt));
       kept = λ r l. let none = ap length (o.nobody r) in (omega arith, λ i h. absurd (omega arith));
     }

@@ -1,6 +1,6 @@
--- What a line says, and what every line keeps.
+-- What a bank of reader-writer resources always keeps.
 use Rattle.std.specs.Prelude.{◌≡◌, ℕ, ◌<◌, ◌≤◌, true, List, [], length, slice_index_or}
-use Rattle.readers_writers.specs.Kept.{good, named, settled}
+use Rattle.readers_writers.specs.Kept.{good, named}
 use Rattle.readers_writers.specs.declared.entry.Entry.{Entry}
 use Rattle.readers_writers.specs.declared.line.Line.{Line}
 
@@ -12,8 +12,8 @@ abbrev pub bare : Line
 bare = record { entries = record { items = [] } }
 
 -- the entries of a resource
-abbrev pub entries_of : List Line → ℕ → List Entry
-entries_of lines r = list_of (slice_index_or lines r bare)
+abbrev pub entries_in : List Line → ℕ → List Entry
+entries_in lines r = list_of (slice_index_or lines r bare)
 
 -- each of the resources has m seats, and its entries are good and name parties
 abbrev pub Keeping : ℕ → Line → Type 0
@@ -21,7 +21,3 @@ Keeping m l = (length (list_of l) ≤ m) × (named (list_of l) ≡ true) × (goo
 
 abbrev pub AllKeep : List Line → ℕ → ℕ → Type 0
 AllKeep lines count m = (r : ℕ) → r < count → Keeping m (slice_index_or lines r bare)
-
--- nothing waits where it could hold
-abbrev pub Settled : List Line → ℕ → Type 0
-Settled lines count = (r : ℕ) → r < count → settled (entries_of lines r) ≡ true
