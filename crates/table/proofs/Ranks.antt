@@ -1,7 +1,10 @@
 -- The jobs before one, counted in a row and over all tasks.
-use Rattle.std.proofs.Common.{◌≡◌, ℕ, zero, suc, ◌≤◌, Bool, true, false, cond, ◌&&◌, eqb, ltb, ◌⊎◌, List, length, get_or, Some, None, Option, count_by, sym, refl, ap, ◌∙◌, inl, inr, ⊎_elim, arith}
+use Rattle.std.proofs.Common.{◌≡◌, ℕ, zero, suc, ◌+◌, ◌≤◌, Bool, true, false, cond, ◌&&◌, eqb, ltb, ◌⊎◌, List, [], ◌∷◌, length, take, drop, get_or, Some, None, Option, count_by, sym, refl, ap, ◌∙◌, inl, inr, ⊎_elim, arith}
 use Rattle.std.proofs.lemmas.Bool.{cases_eq, cond-false, le-ltb}
 use Rattle.std.proofs.lemmas.Bool.Decides.{nat_tests}
+use Rattle.std.proofs.lemmas.List.{take-append-drop}
+use Rattle.std.proofs.lemmas.List.Elements.{filter_map-append}
+use Rattle.std.proofs.lemmas.List.Sums.{sum_by-append}
 use Rattle.std.specs.List.{filter_map, range_with_len}
 use Rattle.std.specs.Ordering.{is_lt, nat_cmp, ordering_then}
 use Rattle.order.specs.declared.elements.Job.{Job}
@@ -72,3 +75,13 @@ jobs_counted p n tasks which g release known idle =
   where
     none : (k : ℕ) → n ≤ k → comes_before p tasks which g release k ≡ false
     none k far = ap (λ (t : Task). selects which t.state && (eqb (get_or p.tasks k 0) g && ltb t.release release)) (idle k far) ∙ ap (λ b. b && (eqb (get_or p.tasks k 0) g && ltb 0 release)) (idle_unselected which)
+
+-- the jobs of a list of tasks, counted in two parts
+pub counted_parts : (P : Job → Bool) (h : ℕ → Option Job) (k : ℕ) (ts : List ℕ) (n before here rest : ℕ) → n ≡ before + count_by P (filter_map h ts) → here ≡ count_by P (filter_map h (take k ts)) → rest ≡ count_by P (filter_map h (drop k ts)) → n ≡ (before + here) + rest
+counted_parts P h k ts n before here rest all front back =
+    let cut = ap (λ xs. count_by P (filter_map h xs)) (sym (take-append-drop k ts)) ∙ ap (count_by P) (filter_map-append h (take k ts) (drop k ts)) in
+    omega (arith, all, front, back, cut, sum_by-append (λ y. cond (P y) 1 0) (filter_map h (take k ts)) (filter_map h (drop k ts)))
+
+pub counted_all : (P : Job → Bool) (h : ℕ → Option Job) (ts : List ℕ) (n before : ℕ) → n ≡ before + count_by P (filter_map h ts) → length ts ≡ 0 → before ≡ n
+counted_all P h [] n before all none = omega arith
+counted_all P h (t ∷ ts) n before all none = absurd (omega arith)

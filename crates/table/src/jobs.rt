@@ -1,9 +1,9 @@
-ghost use Rattle.std.specs.Prelude.{◌≡◌, ℕ, ◌<◌};
+ghost use Rattle.std.specs.Prelude.{◌≡◌, ℕ, ◌+◌, ◌<◌, ◌≤◌, ◌++◌, length};
 ghost use Rattle.std.specs.List.{filter_map};
+ghost use Rattle.arrayvec.specs.ArrayVec.{array_vec_len};
 ghost use Rattle.bank.specs.Questions.{Told};
 ghost use Rattle.plan.specs.Of.{plan_contents};
 ghost use Rattle.rules.specs.Jobs.{count_below, runs, first};
-ghost use Rattle.table.specs.Members.{members_of};
 ghost use Rattle.table.specs.Rows.{job_at, comes_before, ranks_among, setup_with, jobs_of};
 ghost use Rattle.table.specs.Tables.{records_of};
 
@@ -37,29 +37,43 @@ impl Table<'_> {
         })
     }
 
-    // The selected jobs of a cluster.
-    pub(crate) fn job_row(&self, which: Selection, cluster: u8) -> ArrayVec<Job, 64>
-        ensures { result.items ≡ filter_map (job_at (records_of self.now) which)
-            (members_of (plan_contents self.now.plan.now) cluster) }
+    // Appends the jobs of those of some tasks that are selected.
+    pub(crate) fn add_jobs<const N: usize>(
+        &self,
+        which: Selection,
+        tasks: &[u8],
+        row: &mut ArrayVec<Job, N>,
+    )
+        requires { array_vec_len row.old + length tasks.now ≤ N }
+        ensures items { row.new.items ≡ row.old.items
+            ++ filter_map (job_at (records_of self.now) which) tasks.now }
+        ensures few { array_vec_len row.new ≤ array_vec_len row.old + length tasks.now }
     {
-        let mut row = ArrayVec::new();
-        let part = self.members_of(cluster);
-        for task in part {
+        for task in tasks {
             if let Some(job) = self.job_at(which, *task) {
                 row.push(job);
             }
         }
-        row
     }
 
-    // How many selected jobs of the cluster have smaller release numbers. Compared with task 0, so
-    // that no job of the same number comes before.
+    // How many selected jobs of the cluster have smaller release numbers.
     fn jobs_before(&self, which: Selection, cluster: u8, release: u32) -> usize
         ensures { result ≡ count_below (comes_before (plan_contents self.now.plan.now)
             (records_of self.now) which cluster release) self.now.tasks }
     {
-        let row = self.job_row(which, cluster);
-        count_before(row.as_slice(), &Job { release, task: 0 })
+        // with task 0, so that no job of the same number comes before it
+        let job = Job { release, task: 0 };
+        let mut before = 0;
+        let mut rest = self.members_of(cluster);
+        // eight at a time, since a row is as dear to clear as it is long
+        while !rest.is_empty() {
+            let (tasks, others) = rest.split_at(rest.len().min(8));
+            let mut row: ArrayVec<Job, 8> = ArrayVec::new();
+            self.add_jobs(which, tasks, &mut row);
+            before += count_before(row.as_slice(), &job);
+            rest = others;
+        }
+        before
     }
 
     // Whether the job of a task is selected, and fewer such come before it than its cluster has processors.

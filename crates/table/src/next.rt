@@ -8,6 +8,8 @@ ghost use Rattle.table.specs.Tables.{records_of};
 
 use crate::selection::Selection;
 use crate::table::Table;
+use arrayvec::ArrayVec;
+use order::elements::Job;
 use order::row::first_of;
 
 impl Table<'_> {
@@ -16,7 +18,8 @@ impl Table<'_> {
         ensures { result ≡ earliest_of (plan_contents self.now.plan.now) self.now.tasks
             (records_of self.now) cluster }
     {
-        let row = self.job_row(Selection::HeldBack, cluster);
+        let mut row: ArrayVec<Job, 64> = ArrayVec::new();
+        self.add_jobs(Selection::HeldBack, self.members_of(cluster), &mut row);
         let held_back = row.as_slice();
         let place = first_of(held_back)?;
         Some(held_back[place].task as usize)
