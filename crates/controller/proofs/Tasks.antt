@@ -118,6 +118,17 @@ on_time_all a s idle none q =
     (λ (far : a.tasks ≤ q). ap (λ (k : Task). late_in a q k.used k.state) (idle q far))
     (cases_lt q a.tasks)
 
+-- a tick changes nothing of a record but its ticks
+pub ticked_fields : (k : Task) → record k { used = (ticked_task k).used; blocked = (ticked_task k).blocked } ≡ ticked_task k
+ticked_fields k = go k.state
+  where
+    go : (st : State) → record k { used = (ticked_state st k).used; blocked = (ticked_state st k).blocked } ≡ ticked_state st k
+    go Idle = refl
+    go Going = refl
+    go (HeldBack w) = refl
+    go (Waiting w) = refl
+    go (Holding w) = refl
+
 -- a record with no issued request has no tick to count
 pub can_tick_idle : (k : Task) → has_issued k.state ≡ false → k.blocked ≤ 100000000 → CanTick k
 can_tick_idle k none few = record { used = λ e. absurd (false≢true (sym (holds k.state none) ∙ e)); blocked = few }

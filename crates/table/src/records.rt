@@ -1,4 +1,5 @@
 ghost use Rattle.std.specs.Prelude.{◌≡◌, ◌<◌, slice_index_or, slice_set};
+ghost use Rattle.rules.specs.States.{idle_task};
 ghost use Rattle.std.specs.Borrow.{sem, follows};
 ghost use Rattle.table.specs.contracts.records.Records.{the_row};
 
@@ -31,5 +32,16 @@ impl Records<Task> {
     {
         let place = self.record(t);
         *place = task;
+    }
+
+    // Changes the ticks that one task has used and was blocked for.
+    pub(crate) fn set_ticks(&mut self, t: usize, used: u32, blocked: u32)
+        requires { t < 64 }
+        ensures { self.new.rows ≡ slice_set self.old.rows t
+            (record (slice_index_or self.old.rows t idle_task) { used = used; blocked = blocked }) }
+    {
+        let place = self.record(t);
+        place.used = used;
+        place.blocked = blocked;
     }
 }

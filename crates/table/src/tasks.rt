@@ -90,4 +90,16 @@ impl Tasks {
             self.issued_end = end;
         }
     }
+
+    /// Changes the ticks that one task has used and was blocked for, and leaves its state. There is
+    /// none from 64 on, and nothing changes then.
+    pub fn set_ticks(&mut self, t: usize, used: u32, blocked: u32)
+        ensures stored { t < 64 → self.new.records.rows ≡ slice_set self.old.records.rows t
+            (record (slice_index_or self.old.records.rows t idle_task) { used = used; blocked = blocked }) }
+        ensures kept { 64 ≤ t → self.new ≡ self.old }
+    {
+        if t < 64 {
+            self.records.set_ticks(t, used, blocked);
+        }
+    }
 }

@@ -1,3 +1,4 @@
+ghost use Rattle.std.specs.Option.{unwrap_or};
 ghost use Rattle.std.specs.Prelude.{◌≡◌, ◌<◌, ◌≤◌};
 ghost use Rattle.controller.specs.Banks.{BankChanges};
 ghost use Rattle.controller.specs.Of.{setup_of, snapshot_of, Unchanged};
@@ -14,20 +15,21 @@ use rules::refusal::Refusal;
 use rules::task::{State, Task};
 use table::tasks::Tasks;
 
-// The record of a task after a departure: one that waited at the resource, and that the bank now lists as holding, holds.
-fn let_in<B: Bank>(bank: &B, resource: u32, task: u32, job: Task) -> Task
+// The record of a task after a departure, where it changes: one that waited at the resource, and
+// that the bank now lists as holding, holds.
+fn let_in<B: Bank>(bank: &B, resource: u32, task: u32, job: Task) -> Option<Task>
     requires { (resource < (B.Bank.told bank.now).resources) × (task < 64) }
-    ensures { result ≡ let_in resource (B.Bank.active bank.now resource) task job }
+    ensures { unwrap_or result job ≡ let_in resource (B.Bank.active bank.now resource) task job }
 {
     let State::Waiting(wanted) = job.state else {
-        return job;
+        return None;
     };
     if wanted.resource != resource {
-        return job;
+        return None;
     }
     match bank.request_of(resource, task) {
-        Ok(Some(request)) if request.holds() => in_state(job, State::Holding(wanted)),
-        _ => job,
+        Ok(Some(request)) if request.holds() => Some(in_state(job, State::Holding(wanted))),
+        _ => None,
     }
 }
 
@@ -38,7 +40,9 @@ fn let_in_all<B: Bank>(bank: &B, resource: u32, tasks: usize, table: &mut Tasks)
 {
     // by the number of a task, which is its place in the table; who waits has an issued request
     for t in 0..tasks.min(table.issued_end()) {
-        table.store(t, let_in(bank, resource, t as u32, table.get(t)));
+        if let Some(held) = let_in(bank, resource, t as u32, table.get(t)) {
+            table.store(t, held);
+        }
     }
 }
 

@@ -18,6 +18,7 @@ use rules::task::State;
 use table::tasks::Tasks;
 
 // The records one tick on.
+#[tactic(auto, using(crate::proofs::Tasks::ticked_fields))]
 fn tick_all(tasks: usize, table: &mut Tasks)
     requires { (tasks ≤ 64) × ((q : ℕ) → q < tasks → CanTick (slice_index_or table.old.records.rows q idle_task)) }
     ensures { TicksAll tasks table.old.records.rows table.new.records.rows }
@@ -25,7 +26,8 @@ fn tick_all(tasks: usize, table: &mut Tasks)
     // by the number of a task, which is its place in the table; a record with no issued request
     // stays as it is
     for t in 0..tasks.min(table.issued_end()) {
-        table.store(t, ticked(table.get(t)));
+        let next = ticked(table.get(t));
+        table.set_ticks(t, next.used, next.blocked);
     }
 }
 

@@ -6,8 +6,8 @@ use Rattle.controller.specs.Ticks.{CanTick}
 use Rattle.controller.proofs.Tasks.{changed_tasks}
 use Rattle.controller.proofs.controller.tick.tick_all.Goals as goal
 
-pub ticked-requires : goal.ticked-requires
-ticked-requires c = subst CanTick (sym (c.get.ensures ∙ c.loop-t.invariant.left c.loop-t.t (omega arith))) (c.requires.1 c.loop-t.t (omega arith))
+pub ticked-next-requires : goal.ticked-next-requires
+ticked-next-requires c = subst CanTick (sym (c.get.ensures ∙ c.loop-t.invariant.left c.loop-t.t (omega arith))) (c.requires.1 c.loop-t.t (omega arith))
 
 pub returns : goal.returns
 returns c =

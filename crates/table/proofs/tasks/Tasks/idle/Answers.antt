@@ -1,13 +1,6 @@
-use Rattle.std.proofs.Common.{ap, refl}
-use Rattle.rules.specs.States.{idle_task}
-use Rattle.rules.specs.declared.task.Task.{Task}
-use Rattle.table.specs.Tasks.{has_issued, NoneIssuedFrom}
-use Rattle.table.proofs.Rows.{same_all}
+use Rattle.std.proofs.Common.{refl}
+use Rattle.table.proofs.Issued.{none_at_first}
 use Rattle.table.proofs.tasks.Tasks.idle.Goals as goal
 
-pub invariant_of-result : goal.invariant_of-result
-unfolding NoneIssuedFrom
-invariant_of-result c = record {
-  all_records = refl;
-  none_issued = λ q past. ap (λ (k : Task). has_issued k.state) (same_all 64 idle_task q);
-}
+pub invariant_of-result-clause-none_issued : goal.invariant_of-result-clause-none_issued
+invariant_of-result-clause-none_issued c = none_at_first 64 _ refl
