@@ -6,7 +6,7 @@ use Rattle.text.specs.Questions.{first_no}
 use Rattle.bank.specs.Questions.{knows}
 use Rattle.bank.specs.declared.request.Mode.{Mode}
 use Rattle.plan.specs.Contents.{length_at}
-use Rattle.rules.specs.Jobs.{Setup, Snapshot, Jobs, jobs_in, runs, ready, unfinished, first, before, processors_for}
+use Rattle.rules.specs.Jobs.{Setup, Snapshot, Jobs, jobs_in, runs, ready, unfinished, is_among_first, before, processors_for}
 use Rattle.rules.specs.Questions.{questions, work_questions, late_task}
 use Rattle.rules.specs.States.{is_idle, is_holding}
 use Rattle.rules.specs.declared.call.Call.TheVariants.{Release, Ask, Give, Finish, Tick}
@@ -20,8 +20,8 @@ module _ (a : Setup) (s : Snapshot) where
   pub accepted_release : (t : ℕ) → first_no (questions a s (Release t)) ≡ None → (t < a.tasks) × (is_idle (s.tasks t).state ≡ true)
   accepted_release t e = let x = yes _ _ _ e in (ltb-true t a.tasks x.0, (yes _ _ _ x.1).0)
 
-  pub accepted_work : (t : ℕ) → first_no (work_questions a s t) ≡ None → (ready a (jobs_in s) t ≡ true) × (not (is_holding (s.tasks t).state) ≡ true)
-  accepted_work t e = let x = yes _ _ _ e in ((and_parts (ready a (jobs_in s) t) _ x.0).0, (yes _ _ _ x.1).0)
+  pub accepted_work : (t : ℕ) → first_no (work_questions a s t) ≡ None → (ready (jobs_in s) t ≡ true) × (not (is_holding (s.tasks t).state) ≡ true)
+  accepted_work t e = let x = yes _ _ _ e in ((and_parts (ready (jobs_in s) t) _ x.0).0, (yes _ _ _ x.1).0)
 
   pub accepted_ask : (t r : ℕ) (m : Mode) → first_no (questions a s (Ask t r m)) ≡ None → (t < a.tasks) × (r < a.resources) × (knows a.told r m ≡ true) × (is_some (length_at a.plan t r) ≡ true) × (first_no (work_questions a s t) ≡ None)
   accepted_ask t r m e =
@@ -44,5 +44,5 @@ module _ (a : Setup) (s : Snapshot) where
       nothing None e = refl
       nothing (Some x) e = absurd (false≢true e)
 
-pub first_unfinished : (a : Setup) (j : Jobs) (t : ℕ) → first a j t ≡ true → unfinished a j t ≡ true
-first_unfinished a j t e = (and_parts (unfinished a j t) (ltb (before a j (unfinished a j) t) (processors_for a t)) e).0
+pub first_unfinished : (a : Setup) (j : Jobs) (t : ℕ) → is_among_first a.plan a.tasks j t ≡ true → unfinished j t ≡ true
+first_unfinished a j t e = (and_parts (unfinished j t) (ltb (before a.plan a.tasks j (unfinished j) t) (processors_for a.plan t)) e).0

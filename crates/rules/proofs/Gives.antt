@@ -7,7 +7,7 @@ use Rattle.bank.specs.Meaning.{Lists, Sound, Stays}
 use Rattle.bank.specs.declared.request.Request.{Request}
 use Rattle.plan.specs.Contents.{length_at, longest_at, greatest}
 use Rattle.rules.specs.Histories.{entry_of}
-use Rattle.rules.specs.Jobs.{Setup, first}
+use Rattle.rules.specs.Jobs.{Setup, is_among_first}
 use Rattle.rules.specs.Moves.{is_held, is_queued}
 use Rattle.rules.specs.Promises.{is_at}
 use Rattle.rules.specs.Questions.{length_for}
@@ -15,7 +15,7 @@ use Rattle.rules.specs.declared.task.Wanted.{Wanted}
 use Rattle.rules.proofs.Entries.{listed, listed_without, request_without, listed_gone, listed_stays, request_stays, request_some, request_party, holder_held, all_entries}
 use Rattle.rules.proofs.Steps.{some_none, some_same, has_job, same_job, same_apart, owed_others}
 use Rattle.rules.proofs.Waiting.{OwedAll, Within, owed_leave}
-use Rattle.rules.proofs.Words.{TaskWords, held_in, waits_in, jobs_of, TaskKept, Inv, nobody, Changed, each_task, first_jobs}
+use Rattle.rules.proofs.Words.{TaskWords, held_in, waits_in, word_jobs, TaskKept, Inv, nobody, Changed, each_task, first_jobs}
 
 greatest_least : (f : ℕ → ℕ) (n k : ℕ) → k < n → f k ≤ greatest f n
 greatest_least f zero k lt = absurd (omega arith)
@@ -26,7 +26,7 @@ greatest_least f (suc n) k lt = go (greatest_least f n k) (cases_eq k n)
     go ih (inr ne) = omega (arith, ih (omega arith))
 
 -- no declared length is above the longest
-pub length_longest : (a : Setup) (q r : ℕ) → q < length a.plan.tasks → length_for a q r ≤ longest_at a.plan r
+pub length_longest : (a : Setup) (q r : ℕ) → q < length a.plan.tasks → length_for a.plan q r ≤ longest_at a.plan r
 length_longest a q r lt = greatest_least (λ t. unwrap_or (length_at a.plan t r) 0) (length a.plan.tasks) q lt
 
 pub record At (k : TaskWords) (r : ℕ) : Type 0 where
@@ -78,7 +78,7 @@ module _ (a : Setup) (known : a.tasks ≤ length a.plan.tasks) (e : ℕ → Bool
   pub within : (r : ℕ) → r < a.resources → Within (longest_at a.plan r) (λ q. (ks q).used) (ls r)
   within r lr = entries r lr (λ x. holds x ≡ true → (ks x.party).used ≤ longest_at a.plan r) (λ q x p f at h.
       let l = (i.tasks q).in_time at.wanted at.is (held_entry q r (ks q) ls x at f ∙ h) in
-      let m : length_for a q at.wanted.resource ≡ length_for a q r = ap (length_for a q) at.there in
+      let m : length_for a.plan q at.wanted.resource ≡ length_for a.plan q r = ap (length_for a.plan q) at.there in
       let u : (ks x.party).used ≡ (ks q).used = ap (λ (z : ℕ). (ks z).used) p in
       omega (arith, l, m, u, length_longest a q r (omega (arith, exists q r at, known))))
 
@@ -184,7 +184,7 @@ module _ (a : Setup) (known : a.tasks ≤ length a.plan.tasks) (ks ks' : ℕ →
   give_step = record {
     tasks = each_task ks ks' p _ c (TaskKept a n ls') giving (λ q e. staying q e);
     apart = same_apart ks ks' (same_job ks ks' p _ c refl) i.apart;
-    firsts = λ t z. each_task ks ks' p _ c (λ t k. is_some k.wanted ≡ true → first a (jobs_of ks' ls') t ≡ k.issued)
+    firsts = λ t z. each_task ks ks' p _ c (λ t k. is_some k.wanted ≡ true → is_among_first a.plan a.tasks (word_jobs ks' ls') t ≡ k.issued)
         (λ e. absurd (false≢true e)) (λ q e f. first_jobs a ks ks' ls ls' (same_job ks ks' p _ c refl) q ∙ i.firsts q refl f) t;
     owed = λ r' l. owed_others a ks ks' p _ c r' (longest_at a.plan r') (ls' r') (gone r' l) (owed_left r' l);
     sound = sound';

@@ -1,10 +1,10 @@
 -- Holders and the ticks that they have left, in a run.
 use Rattle.std.proofs.Common.{◌≡◌, ℕ, ◌+◌, ◌-◌, ◌<◌, ◌≤◌, Bool, true, false, not, ◌&&◌, ◌||◌, is_some, Some, None, Ok, Err, Option, Result, unwrap_or, sym, refl, ap, ◌∙◌, subst, ⊎_elim, arith}
 use Rattle.std.proofs.lemmas.Bool.{le-leb, leb-true, false≢true, both_ways, cases_Bool, cases_lt}
-use Rattle.plan.specs.Contents.{length_at}
+use Rattle.plan.specs.Contents.{Contents, length_at}
 use Rattle.rules.specs.Answers.{ticked}
 use Rattle.rules.specs.Histories.{History, lists, job, wanted, issued, waiting, pending, used, state, state_of, entry_of, after}
-use Rattle.rules.specs.Holders.{HasLeft, NamesLate, TickNames, IsNearestEnd, ticks_left, task_and_left, nearest_end}
+use Rattle.rules.specs.Holders.{HasLeft, NamesLate, TickNames, IsNearestEnd, ticks_left, task_and_left, nearest_of}
 use Rattle.rules.specs.Jobs.{Setup, Snapshot, least_below}
 use Rattle.rules.specs.Moves.{is_queued}
 use Rattle.rules.specs.Promises.{LateNamed}
@@ -13,6 +13,7 @@ use Rattle.rules.specs.States.{is_holding, is_pending, wanted_of}
 use Rattle.rules.specs.declared.refusal.Refusal.{Refusal}
 use Rattle.rules.specs.declared.task.State.{State}
 use Rattle.rules.specs.declared.task.State.TheVariants.{Idle, Going, HeldBack, Waiting, Holding}
+use Rattle.rules.specs.declared.task.Task.{Task}
 use Rattle.rules.specs.declared.task.Wanted.{Wanted}
 use Rattle.rules.proofs.Counts.{least_some, least_first, least_none, lowest_some, lowest_none}
 use Rattle.rules.proofs.Lift.{InvOf}
@@ -26,49 +27,49 @@ rest_of None n e le = absurd (false≢true e)
 rest_of (Some l) n e le = let same : l ≡ n + (l - n) = omega arith in ap (λ (k : ℕ). Some k) same
 
 -- who has ticks left holds, and has as many left as are found
-module _ (a : Setup) (s : Snapshot) (t n : ℕ) (has : HasLeft a s t n) where
-  pub left_holds : is_holding (s.tasks t).state ≡ true
+module _ (p : Contents) (tasks : ℕ → Task) (t n : ℕ) (has : HasLeft p tasks t n) where
+  pub left_holds : is_holding (tasks t).state ≡ true
   left_holds = ap is_holding has.holds
 
-  pub left_length : length_for a t has.wanted.resource ≡ (s.tasks t).used + n
+  pub left_length : length_for p t has.wanted.resource ≡ (tasks t).used + n
   left_length = ap (λ (o : Option ℕ). unwrap_or o 0) has.left
 
-  pub left_is : ticks_left a s t ≡ n
+  pub left_is : ticks_left p tasks t ≡ n
   left_is =
-      let there : length_for a t (wanted_of (s.tasks t).state).resource ≡ length_for a t has.wanted.resource = ap (λ (st : State). length_for a t (wanted_of st).resource) has.holds in
+      let there : length_for p t (wanted_of (tasks t).state).resource ≡ length_for p t has.wanted.resource = ap (λ (st : State). length_for p t (wanted_of st).resource) has.holds in
       omega (arith, there, left_length)
 
-  pub none_left : n ≡ 0 → late a s t ≡ true
-  none_left e = ap (late_in a t (s.tasks t).used) has.holds ∙ le-leb (length_for a t has.wanted.resource) (s.tasks t).used (omega (arith, left_length, e))
+  pub none_left : n ≡ 0 → late_in p t (tasks t).used (tasks t).state ≡ true
+  none_left e = ap (late_in p t (tasks t).used) has.holds ∙ le-leb (length_for p t has.wanted.resource) (tasks t).used (omega (arith, left_length, e))
 
 not_less : (m n : ℕ) → (n < m → ⊥) → m ≤ n
 not_less m n f = ⊎_elim (λ (l : n < m). absurd (f l)) (λ (g : m ≤ n). g) (cases_lt n m)
 
 -- the holder that is found is the nearest its end, where each holder is a task and has ticks left or none
-module _ (a : Setup) (s : Snapshot) (known : (t : ℕ) → is_holding (s.tasks t).state ≡ true → t < a.tasks) (left : (t : ℕ) → is_holding (s.tasks t).state ≡ true → HasLeft a s t (ticks_left a s t)) where
-  pub is_nearest : IsNearestEnd a s (nearest_end a s)
-  is_nearest = go (least_below test value a.tasks) refl
+module _ (p : Contents) (m : ℕ) (tasks : ℕ → Task) (known : (t : ℕ) → is_holding (tasks t).state ≡ true → t < m) (left : (t : ℕ) → is_holding (tasks t).state ≡ true → HasLeft p tasks t (ticks_left p tasks t)) where
+  pub is_nearest : IsNearestEnd p tasks (nearest_of p m tasks)
+  is_nearest = go (least_below test value m) refl
     where
       test : ℕ → Bool
-      test t = is_holding (s.tasks t).state
+      test t = is_holding (tasks t).state
 
       value : ℕ → ℕ
-      value t = ticks_left a s t
+      value t = ticks_left p tasks t
 
       less_same : {m n : ℕ} → m < n → n ≡ m → ⊥
       less_same l e = omega arith
 
-      go : (o : Option ℕ) → least_below test value a.tasks ≡ o → IsNearestEnd a s (task_and_left value o)
-      go None e = λ t. ⊎_elim (λ f. absurd (both_ways (test t) (least_none test value a.tasks e t (known t f)) f)) (λ f. f) (cases_Bool (test t))
+      go : (o : Option ℕ) → least_below test value m ≡ o → IsNearestEnd p tasks (task_and_left value o)
+      go None e = λ t. ⊎_elim (λ f. absurd (both_ways (test t) (least_none test value m e t (known t f)) f)) (λ f. f) (cases_Bool (test t))
       go (Some t) e =
-          let found = least_some test value a.tasks t e in
+          let found = least_some test value m t e in
           record {
             holder = left t found.0;
-            fewest = λ u m has. let holds = left_holds a s u m has in omega (arith, found.2 u (known u holds) holds, left_is a s u m has);
-            lowest = λ u has. not_less t u (λ lt. less_same (least_first test value a.tasks t e u lt (left_holds a s u (value t) has)) (left_is a s u (value t) has));
+            fewest = λ u k has. let holds = left_holds p tasks u k has in omega (arith, found.2 u (known u holds) holds, left_is p tasks u k has);
+            lowest = λ u has. not_less t u (λ lt. less_same (least_first test value m t e u lt (left_holds p tasks u (value t) has)) (left_is p tasks u (value t) has));
           }
 
-late_holds : (a : Setup) (t u : ℕ) (st : State) → late_in a t u st ≡ true → is_holding st ≡ true
+late_holds : (p : Contents) (t u : ℕ) (st : State) → late_in p t u st ≡ true → is_holding st ≡ true
 late_holds a t u Idle e = absurd (false≢true e)
 late_holds a t u Going e = absurd (false≢true e)
 late_holds a t u (HeldBack w) e = absurd (false≢true e)
@@ -83,11 +84,11 @@ module _ (a : Setup) (h : History) (i : InvOf a h) where
   holder_known t e = (i.tasks t).known (shape t e).job
 
   -- a holder has ticks left, or none
-  pub holder_left : (t : ℕ) → is_holding (state t h) ≡ true → HasLeft a (after a h) t (ticks_left a (after a h) t)
+  pub holder_left : (t : ℕ) → is_holding (state t h) ≡ true → HasLeft a.plan (after a h).tasks t (ticks_left a.plan (after a h).tasks t)
   holder_left t e =
       let x = shape t e in
-      let l = length_for a t x.wanted.resource in
-      let there : length_for a t (wanted_of (state t h)).resource ≡ l = ap (λ (st : State). length_for a t (wanted_of st).resource) x.state in
+      let l = length_for a.plan t x.wanted.resource in
+      let there : length_for a.plan t (wanted_of (state t h)).resource ≡ l = ap (λ (st : State). length_for a.plan t (wanted_of st).resource) x.state in
       record {
         wanted = x.wanted;
         holds = x.state;
@@ -95,23 +96,23 @@ module _ (a : Setup) (h : History) (i : InvOf a h) where
             ∙ ap (λ (k : ℕ). Some (used t h + (k - used t h))) (sym there);
       }
 
-  late_left : (t : ℕ) → late a (after a h) t ≡ true → HasLeft a (after a h) t 0
+  late_left : (t : ℕ) → late a (after a h) t ≡ true → HasLeft a.plan (after a h).tasks t 0
   late_left t e =
-      let holds = late_holds a t (used t h) (state t h) e in
+      let holds = late_holds a.plan t (used t h) (state t h) e in
       let has = holder_left t holds in
-      let passed : length_for a t has.wanted.resource ≤ used t h = leb-true (length_for a t has.wanted.resource) (used t h) (sym (ap (late_in a t (used t h)) has.holds) ∙ e) in
-      let zero : ticks_left a (after a h) t ≡ 0 = omega (arith, left_length a (after a h) t (ticks_left a (after a h) t) has, passed) in
-      subst (HasLeft a (after a h) t) zero has
+      let passed : length_for a.plan t has.wanted.resource ≤ used t h = leb-true (length_for a.plan t has.wanted.resource) (used t h) (sym (ap (late_in a.plan t (used t h)) has.holds) ∙ e) in
+      let zero : ticks_left a.plan (after a h).tasks t ≡ 0 = omega (arith, left_length a.plan (after a h).tasks t (ticks_left a.plan (after a h).tasks t) has, passed) in
+      subst (HasLeft a.plan (after a h).tasks t) zero has
 
   -- the task that the questions name is the lowest late one
-  pub names_late : NamesLate a (after a h) (late_task a (after a h))
+  pub names_late : NamesLate a.plan (after a h).tasks (late_task a (after a h))
   names_late = go (late_task a (after a h)) refl
     where
-      go : (o : Option ℕ) → late_task a (after a h) ≡ o → NamesLate a (after a h) o
-      go None e = λ u has. both_ways (late a (after a h) u) (lowest_none (late a (after a h)) a.tasks e u (holder_known u (left_holds a (after a h) u 0 has))) (none_left a (after a h) u 0 has refl)
+      go : (o : Option ℕ) → late_task a (after a h) ≡ o → NamesLate a.plan (after a h).tasks o
+      go None e = λ u has. both_ways (late a (after a h) u) (lowest_none (late a (after a h)) a.tasks e u (holder_known u (left_holds a.plan (after a h).tasks u 0 has))) (none_left a.plan (after a h).tasks u 0 has refl)
       go (Some t) e =
           let found = lowest_some (late a (after a h)) a.tasks t e in
-          (late_left t found.0, λ u has. not_below u (none_left a (after a h) u 0 has refl) found.2)
+          (late_left t found.0, λ u has. not_below u (none_left a.plan (after a h).tasks u 0 has refl) found.2)
         where
           not_below : (u : ℕ) → late a (after a h) u ≡ true → ((k : ℕ) → k < t → late a (after a h) k ≡ false) → t ≤ u
           not_below u f low = not_less t u (λ lt. both_ways (late a (after a h) u) (low u lt) f)

@@ -56,7 +56,7 @@ module _ (a : Setup) (set : Setting a) (h : History) (i : InvOf a h) where
       go None f = absurd (both_ways (issued t h) ((i.tasks t).no_request f) e)
       go (Some w) f = refl
 
-  holder_runs : (t : ℕ) → holding t h ≡ true → runs a (jobs_after h) t ≡ true
+  holder_runs : (t : ℕ) → holding t h ≡ true → runs a.plan a.tasks (jobs_after h) t ≡ true
   holder_runs t e =
       let out = (and_parts (issued t h) _ e).0 in
       let s = ready_shape (job t h) (wanted t h) (issued t h) (held_in t (words_of a h t) (lists h)) (job_of t out) out e (i.tasks t).no_request in

@@ -6,7 +6,7 @@ use Rattle.bank.specs.Meaning.{Lists, Sound}
 use Rattle.plan.specs.Contents.{processors}
 use Rattle.rules.specs.Answers.{released, Answered}
 use Rattle.rules.specs.Histories.{History, called, lists, releases, job, wanted, issued, used, waited, state_of, jobs_after, after, ends}
-use Rattle.rules.specs.Jobs.{Setup, first, cluster_of}
+use Rattle.rules.specs.Jobs.{Setup, is_among_first, cluster_of}
 use Rattle.rules.specs.Moves.{moved_task}
 use Rattle.rules.specs.Questions.{work_questions}
 use Rattle.rules.specs.States.{is_idle, is_ready, is_holding, released_task}
@@ -20,7 +20,7 @@ use Rattle.rules.proofs.Words.{TaskWords, words_of, held_in, state_in, Inv, nobo
 -- what never changes in a run
 pub record Setting (a : Setup) : Type 0 where
   pub few : a.tasks ≤ 64
-  pub clusters : (t : ℕ) → t < a.tasks → cluster_of a t < length a.plan.clusters
+  pub clusters : (t : ℕ) → t < a.tasks → cluster_of a.plan t < length a.plan.clusters
   pub known : a.tasks ≤ length a.plan.tasks
   pub there : a.resources ≤ a.told.resources
   pub resources : 0 < a.tasks → a.told.resources ≡ a.resources
@@ -36,7 +36,7 @@ SoundOf a ls = (r : ℕ) → r < a.resources → Sound a.told r (ls r)
 pub record Stepped (a : Setup) (e : Event) (new : Lists) (h : History) : Type 0 where
   pub inv : InvOf a (called h e new)
   pub agrees : (q : ℕ) → (after a (called h e new)).tasks q ≡ moved_task (after a h) e new q
-  pub stays : (t : ℕ) → first a (jobs_after h) t ≡ true → ends t e ≡ false → first a (jobs_after (called h e new)) t ≡ true
+  pub stays : (t : ℕ) → is_among_first a.plan a.tasks (jobs_after h) t ≡ true → ends t e ≡ false → is_among_first a.plan a.tasks (jobs_after (called h e new)) t ≡ true
 
 -- the record of a task, by its words
 abbrev pub task_of : ℕ → TaskWords → Lists → Task

@@ -9,7 +9,7 @@ use Rattle.text.specs.Questions.{first_no}
 use Rattle.rules.specs.Questions.{work_questions}
 use Rattle.rules.specs.Answers.{asked, Answered, Asks, Issues}
 use Rattle.rules.specs.Histories.{History, called, lists, releases, job, wanted, issued, used, waited, state_of, jobs_after, after, is_issued}
-use Rattle.rules.specs.Jobs.{Setup, first}
+use Rattle.rules.specs.Jobs.{Setup, is_among_first}
 use Rattle.rules.specs.Moves.{is_held}
 use Rattle.rules.specs.States.{asked_state, issued_state, in_state}
 use Rattle.rules.specs.declared.answer.Asked.{Asked}
@@ -20,13 +20,13 @@ use Rattle.rules.specs.declared.task.Wanted.{Wanted}
 use Rattle.rules.proofs.Accepted.{accepted_ask}
 use Rattle.rules.proofs.Lift.{Setting, InvOf, SoundOf, Stepped, task_of, going, not_held}
 use Rattle.rules.proofs.Steps.{same_job, ask_step, issue_step, entry_new, entered_others}
-use Rattle.rules.proofs.Words.{TaskWords, words_of, held_in, jobs_of, Placed, Inv, nobody, Changed, each_task, first_jobs, state_same}
+use Rattle.rules.proofs.Words.{TaskWords, words_of, held_in, word_jobs, Placed, Inv, nobody, Changed, each_task, first_jobs, state_same}
 
 -- a task that was exempt no longer is
-pub close : (a : Setup) (x : ℕ → Bool) (ks : ℕ → TaskWords) (ls : Lists) (n : ℕ) → Inv a x ks ls n → ((t : ℕ) → x t ≡ true → is_some (ks t).wanted ≡ true → first a (jobs_of ks ls) t ≡ (ks t).issued) → Inv a nobody ks ls n
+pub close : (a : Setup) (x : ℕ → Bool) (ks : ℕ → TaskWords) (ls : Lists) (n : ℕ) → Inv a x ks ls n → ((t : ℕ) → x t ≡ true → is_some (ks t).wanted ≡ true → is_among_first a.plan a.tasks (word_jobs ks ls) t ≡ (ks t).issued) → Inv a nobody ks ls n
 close a x ks ls n i done = record { tasks = i.tasks; apart = i.apart; firsts = λ t z e. go t e (x t) refl; owed = i.owed; sound = i.sound }
   where
-    go : (t : ℕ) → is_some (ks t).wanted ≡ true → (b : Bool) → x t ≡ b → first a (jobs_of ks ls) t ≡ (ks t).issued
+    go : (t : ℕ) → is_some (ks t).wanted ≡ true → (b : Bool) → x t ≡ b → is_among_first a.plan a.tasks (word_jobs ks ls) t ≡ (ks t).issued
     go t e true f = done t f e
     go t e false f = i.firsts t f e
 
@@ -70,10 +70,10 @@ module _ (a : Setup) (set : Setting a) (h : History) (i : InvOf a h) (new : List
     }
 
     -- a job is held back
-    pub back_stepped : first a (jobs_after h) p ≡ false → new ≡ lists h → Stepped a (asked p r m (Ok Back)) new h
+    pub back_stepped : is_among_first a.plan a.tasks (jobs_after h) p ≡ false → new ≡ lists h → Stepped a (asked p r m (Ok Back)) new h
     back_stepped late same = record {
       inv = rw same (close a (λ t. eqb p t) ks' (lists h) (releases h) (ask_step a (words_of a h) ks' (lists h) (releases h) p w i g.0 g.1 place back_changed)
-          (λ t e f. subst (λ (z : ℕ). first a (jobs_of ks' (lists h)) z ≡ (ks' z).issued) (eqb-true p t e) (first_jobs a (words_of a h) ks' (lists h) (lists h) jobs p ∙ late ∙ sym (ap (λ (k : TaskWords). k.issued) back_changed.self))));
+          (λ t e f. subst (λ (z : ℕ). is_among_first a.plan a.tasks (word_jobs ks' (lists h)) z ≡ (ks' z).issued) (eqb-true p t e) (first_jobs a (words_of a h) ks' (lists h) (lists h) jobs p ∙ late ∙ sym (ap (λ (k : TaskWords). k.issued) back_changed.self))));
       agrees = each_task (words_of a h) ks' p _ back_changed (λ q k. task_of q k new ≡ cond (eqb p q) (in_state (asked_state Back w) (task_of q (words_of a h q) (lists h))) (task_of q (words_of a h q) (lists h)))
           (rw (eq-eqb p p refl) (ap (λ (st : State). record { state = st; release = unwrap_or (job p h) 0; used = 0; blocked = (words_of a h p).blocked }) (back_state (job p h) w _ g.0)))
           (λ q e. rw (e, same) refl);
@@ -87,7 +87,7 @@ module _ (a : Setup) (set : Setting a) (h : History) (i : InvOf a h) (new : List
         jobs = same_job (words_of a h) ks' p _ back_changed refl
 
     -- a request is issued by an ask
-    module _ (x : Asked) (holds : Bool) (is : is_issued x ≡ true) (st : asked_state x w ≡ issued_state holds w) (early : first a (jobs_after h) p ≡ true) (enter : Issues a (after a h) p w holds new) (sound : SoundOf a new) (lt : p < a.tasks) where
+    module _ (x : Asked) (holds : Bool) (is : is_issued x ≡ true) (st : asked_state x w ≡ issued_state holds w) (early : is_among_first a.plan a.tasks (jobs_after h) p ≡ true) (enter : Issues a (after a h) p w holds new) (sound : SoundOf a new) (lt : p < a.tasks) where
       abbrev ks' : ℕ → TaskWords
       ks' = words_of a (called h (asked p r m (Ok x)) new)
 
@@ -116,7 +116,7 @@ module _ (a : Setup) (set : Setting a) (h : History) (i : InvOf a h) (new : List
       jobs : (q : ℕ) → (ks' q).job ≡ (words_of a h q).job
       jobs = same_job (words_of a h) ks' p _ whole_change refl
 
-      early_now : first a (jobs_of ks₁ (lists h)) p ≡ true
+      early_now : is_among_first a.plan a.tasks (word_jobs ks₁ (lists h)) p ≡ true
       early_now = first_jobs a (words_of a h) ks₁ (lists h) (lists h) (same_job (words_of a h) ks₁ p _ first_change refl) p ∙ early
 
       wants : (ks₁ p).wanted ≡ Some w

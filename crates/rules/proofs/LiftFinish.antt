@@ -5,7 +5,7 @@ use Rattle.std.proofs.lemmas.Bool.{eqb-true, eqb-false, eq-eqb, ne_eqb, false≢
 use Rattle.bank.specs.Meaning.{Lists}
 use Rattle.rules.specs.Answers.{finished, Answered, IssuesNext, Issues}
 use Rattle.rules.specs.Histories.{History, called, lists, releases, job, wanted, issued, used, waited, state_of, jobs_after, after}
-use Rattle.rules.specs.Jobs.{Setup, Jobs, jobs_in, first, ended, next_issued}
+use Rattle.rules.specs.Jobs.{Setup, Jobs, jobs_of, is_among_first, cluster_of, ended, next_of, next_issued}
 use Rattle.rules.specs.Moves.{is_held, issued_task}
 use Rattle.rules.specs.Questions.{wanted_by}
 use Rattle.rules.specs.States.{issued_state, wanted_of, idle_task}
@@ -16,11 +16,11 @@ use Rattle.rules.specs.declared.task.State.TheVariants.{HeldBack}
 use Rattle.rules.specs.declared.task.Task.{Task}
 use Rattle.rules.specs.declared.task.Wanted.{Wanted}
 use Rattle.rules.proofs.Accepted.{accepted_finish}
-use Rattle.rules.proofs.Ends.{next_of, only, ended_words, end_step, stays_first_lem, next_back}
+use Rattle.rules.proofs.Ends.{only, ended_words, end_step, stays_first_lem, next_back}
 use Rattle.rules.proofs.Lift.{Setting, InvOf, SoundOf, Stepped, task_of, going, not_held}
 use Rattle.rules.proofs.LiftAsk.{update, updated, back_state, issued_state_lem, issued_words}
 use Rattle.rules.proofs.Steps.{same_job, issue_step, entry_new, entered_others}
-use Rattle.rules.proofs.Words.{TaskWords, words_of, held_in, state_in, jobs_of, Inv, Changed, each_task, first_jobs, state_same}
+use Rattle.rules.proofs.Words.{TaskWords, words_of, held_in, state_in, word_jobs, Inv, Changed, each_task, first_jobs, state_same}
 
 -- the request of a held-back task
 pub some_of : {A : Type 0} (o : Option A) → is_some o ≡ true → (x : A) × (o ≡ Some x)
@@ -35,25 +35,25 @@ module _ (a : Setup) (h : History) (i : InvOf a h) (p : ℕ) (free : wanted p h 
   first_change = updated (words_of a h) p (ended_words (words_of a h p))
 
   -- the jobs when that of p has ended
-  same_state : (q : ℕ) → (jobs_in (ended (after a h) p)).state q ≡ (jobs_of ks₁ (lists h)).state q
+  same_state : (q : ℕ) → (jobs_of (ended (after a h).tasks p)).state q ≡ (word_jobs ks₁ (lists h)).state q
   same_state q = go (eqb p q)
     where
       go : (b : Bool) → (cond {A = Task} b idle_task ((after a h).tasks q)).state ≡ state_in q (cond b (ended_words (words_of a h p)) (words_of a h q)) (lists h)
       go true = refl
       go false = refl
 
-  same_number : (q : ℕ) → (jobs_in (ended (after a h) p)).number q ≡ (jobs_of ks₁ (lists h)).number q
+  same_number : (q : ℕ) → (jobs_of (ended (after a h).tasks p)).number q ≡ (word_jobs ks₁ (lists h)).number q
   same_number q = go (eqb p q)
     where
       go : (b : Bool) → (cond {A = Task} b idle_task ((after a h).tasks q)).release ≡ unwrap_or (cond {A = TaskWords} b (ended_words (words_of a h p)) (words_of a h q)).job 0
       go true = refl
       go false = refl
 
-  pub ended_jobs : jobs_in (ended (after a h) p) ≡ jobs_of ks₁ (lists h)
+  pub ended_jobs : jobs_of (ended (after a h).tasks p) ≡ word_jobs ks₁ (lists h)
   ended_jobs = λ j. record { state = fun_ext same_state j; number = fun_ext same_number j }
 
-  pub next_same : next_issued a (after a h) p ≡ next_of a (jobs_of ks₁ (lists h)) p
-  next_same = ap (λ (j : Jobs). next_of a j p) ended_jobs
+  pub next_same : next_issued a (after a h) p ≡ next_of a.plan a.tasks (word_jobs ks₁ (lists h)) (cluster_of a.plan p)
+  next_same = ap (λ (j : Jobs). next_of a.plan a.tasks j (cluster_of a.plan p)) ended_jobs
 
   quiet : issued p h ≡ false
   quiet = (i.tasks p).no_request free
@@ -68,7 +68,7 @@ module _ (a : Setup) (h : History) (i : InvOf a h) (p : ℕ) (free : wanted p h 
     pub is : (words_of a h u).wanted ≡ Some wanted
     pub unissued : (words_of a h u).issued ≡ false
     pub job : is_some (words_of a h u).job ≡ true
-    pub early : first a (jobs_of ks₁ (lists h)) u ≡ true
+    pub early : is_among_first a.plan a.tasks (word_jobs ks₁ (lists h)) u ≡ true
     pub words : ks₁ u ≡ words_of a h u
     pub state : ((after a h).tasks u).state ≡ HeldBack wanted
 
@@ -93,7 +93,7 @@ module _ (a : Setup) (h : History) (i : InvOf a h) (p : ℕ) (free : wanted p h 
   pub ended_inv : Inv a (only (next_issued a (after a h) p)) ks₁ (lists h) (releases h)
   ended_inv = rw next_same (end_step a (words_of a h) ks₁ (lists h) (releases h) p i free first_change)
 
-  ends_first : (t : ℕ) → eqb p t ≡ false → first a (jobs_after h) t ≡ true → first a (jobs_of ks₁ (lists h)) t ≡ true
+  ends_first : (t : ℕ) → eqb p t ≡ false → is_among_first a.plan a.tasks (jobs_after h) t ≡ true → is_among_first a.plan a.tasks (word_jobs ks₁ (lists h)) t ≡ true
   ends_first = stays_first_lem a (words_of a h) ks₁ (lists h) (releases h) p i free first_change
 
   -- no request is issued

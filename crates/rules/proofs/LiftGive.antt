@@ -126,14 +126,14 @@ module _ (a : Setup) (set : Setting a) (h : History) (i : InvOf a h) (new : List
   nobody_late : late_task a (after a h) ≡ None
   nobody_late = accepted_tick a (after a h) d.passed
 
-  in_time_lem : (j : Option ℕ) (o : Option Wanted) (b x : Bool) (q u : ℕ) → late_in a q u (state_of j o b x) ≡ false → is_some j ≡ true → b ≡ true → x ≡ true → (w : Wanted) → o ≡ Some w → u < length_for a q w.resource
+  in_time_lem : (j : Option ℕ) (o : Option Wanted) (b x : Bool) (q u : ℕ) → late_in a.plan q u (state_of j o b x) ≡ false → is_some j ≡ true → b ≡ true → x ≡ true → (w : Wanted) → o ≡ Some w → u < length_for a.plan q w.resource
   in_time_lem None o b x q u l ej eb ex w e = absurd (false≢true ej)
   in_time_lem (Some n) None b x q u l ej eb ex w e = absurd (some_none refl e)
   in_time_lem (Some n) (Some v) false x q u l ej eb ex w e = absurd (false≢true eb)
   in_time_lem (Some n) (Some v) true false q u l ej eb ex w e = absurd (false≢true ex)
-  in_time_lem (Some n) (Some v) true true q u l ej eb ex w e = let same : v ≡ w = cc in subst (λ (z : Wanted). u < length_for a q z.resource) same (leb-false (length_for a q v.resource) u l)
+  in_time_lem (Some n) (Some v) true true q u l ej eb ex w e = let same : v ≡ w = cc in subst (λ (z : Wanted). u < length_for a.plan q z.resource) same (leb-false (length_for a.plan q v.resource) u l)
 
-  early : (q : ℕ) (w : Wanted) → wanted q h ≡ Some w → held_in q (words_of a h q) (lists h) ≡ true → used q h < length_for a q w.resource
+  early : (q : ℕ) (w : Wanted) → wanted q h ≡ Some w → held_in q (words_of a h q) (lists h) ≡ true → used q h < length_for a.plan q w.resource
   early q w e f =
       let has = has_job a (releases h) (lists h) q (words_of a h q) (i.tasks q) (ap is_some e) in
       in_time_lem (job q h) (wanted q h) (issued q h) (held_in q (words_of a h q) (lists h)) q (used q h) (lowest_none (late a (after a h)) a.tasks nobody_late q ((i.tasks q).known has)) has

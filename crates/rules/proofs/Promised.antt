@@ -7,7 +7,7 @@ use Rattle.plan.specs.Contents.{processors}
 use Rattle.rules.specs.Answers.{finished, Answered, IssuesNext}
 use Rattle.rules.specs.Histories.{History, called, lists, releases, job, wanted, issued, held_back, jobs_after, after, is_for}
 use Rattle.rules.specs.Holders.{NamesLate}
-use Rattle.rules.specs.Jobs.{Setup, count_below, first, next_issued}
+use Rattle.rules.specs.Jobs.{Setup, count_below, is_among_first, next_issued}
 use Rattle.rules.specs.Promises.{is_at, LateNamed, NextIssued, IssuesFirst, requests_to}
 use Rattle.rules.specs.declared.answer.Finished.{Finished}
 use Rattle.rules.specs.declared.answer.Issued.{Issued}
@@ -28,8 +28,8 @@ use Rattle.rules.proofs.Words.{words_of, nobody, numbered}
 
 -- the lowest late task is named
 pub late_named : (a : Setup) (h : History) (i : InvOf a h) (new : Lists) (e : Event) → Answered a (after a h) e new → LateNamed a e h
-late_named a h i new (Accepted (Acceptance.Tick n)) d = subst (NamesLate a (after a h)) (accepted_tick a (after a h) d.passed) (names_late a h i)
-late_named a h i new (Refused Call.Tick why) d = subst (NamesLate a (after a h)) (sym d.named) (names_late a h i)
+late_named a h i new (Accepted (Acceptance.Tick n)) d = subst (NamesLate a.plan (after a h).tasks) (accepted_tick a (after a h) d.passed) (names_late a h i)
+late_named a h i new (Refused Call.Tick why) d = subst (NamesLate a.plan (after a h).tasks) (sym d.named) (names_late a h i)
 late_named a h i new _ d = tt
 
 -- whose request is not given back and not issued, is held back
@@ -42,7 +42,7 @@ back_parts t h e = let x = and_parts (is_some (wanted t h)) (not (issued t h)) e
 -- a held-back request is issued by a finish exactly where its job is then among the first
 module _ (a : Setup) (h : History) (i : InvOf a h) (new : Lists) (t : ℕ) (f : Finished) (next : InvOf a (called h (finished t (Ok f)) new)) where
   abbrev then_first : ℕ → Bool
-  then_first u = first a (jobs_after (called h (finished t (Ok f)) new)) u
+  then_first u = is_among_first a.plan a.tasks (jobs_after (called h (finished t (Ok f)) new)) u
 
   comes_first : (u : ℕ) → held_back u h ≡ true → then_first u ≡ is_for u f.issued
   comes_first u e =
@@ -70,7 +70,7 @@ next_lem a h i new (Accepted (Acceptance.Finish t f)) d next = issues_first a h 
 next_lem a h i new _ d next = tt
 
 module _ (a : Setup) (set : Setting a) (h : History) (i : InvOf a h) where
-  pub issued_first : (t : ℕ) → issued t h ≡ true → first a (jobs_after h) t ≡ true
+  pub issued_first : (t : ℕ) → issued t h ≡ true → is_among_first a.plan a.tasks (jobs_after h) t ≡ true
   issued_first t e = i.firsts t refl (some (wanted t h) (i.tasks t).no_request) ∙ e
     where
       some : (o : Option Wanted) → (o ≡ None → issued t h ≡ false) → is_some o ≡ true

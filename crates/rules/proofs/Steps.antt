@@ -6,13 +6,13 @@ use Rattle.bank.specs.Lists.{request_of}
 use Rattle.bank.specs.Meaning.{Lists, Sound, Added}
 use Rattle.bank.specs.declared.request.Request.{Request}
 use Rattle.plan.specs.Contents.{longest_at}
-use Rattle.rules.specs.Jobs.{Setup, first}
+use Rattle.rules.specs.Jobs.{Setup, is_among_first}
 use Rattle.rules.specs.Promises.{is_at}
 use Rattle.rules.specs.declared.task.Wanted.{Wanted}
 use Rattle.rules.proofs.Entries.{listed, count_push, request_push_other, request_push_new, request_none}
 use Rattle.rules.proofs.Places.{first_released}
 use Rattle.rules.proofs.Waiting.{OwedAll, owed_same, owed_enter}
-use Rattle.rules.proofs.Words.{TaskWords, state_in, jobs_of, Placed, TaskKept, Inv, nobody, Changed, each_task, unfinished_job, numbered, first_jobs, SameEntries, task_same}
+use Rattle.rules.proofs.Words.{TaskWords, state_in, word_jobs, Placed, TaskKept, Inv, nobody, Changed, each_task, unfinished_job, numbered, first_jobs, SameEntries, task_same}
 
 pub some_none : {A : Type 0} {x : A} {o : Option A} → o ≡ None → o ≡ Some x → ⊥
 some_none p q = let z : ◌≡◌ {A = ℕ} 0 1 = cc in omega arith
@@ -98,9 +98,9 @@ module _ (a : Setup) (ks ks' : ℕ → TaskWords) (ls : Lists) (n p : ℕ) (i : 
       old : (q : ℕ) → eqb p q ≡ false → is_some (ks' q).job ≡ true → is_some (ks q).job ≡ true
       old q e f = sym (ap (λ (k : TaskWords). is_some k.job) (c.others q e)) ∙ f
 
-  pub first_begun : (t : ℕ) → is_some (ks t).job ≡ true → first a (jobs_of ks' ls) t ≡ first a (jobs_of ks ls) t
+  pub first_begun : (t : ℕ) → is_some (ks t).job ≡ true → is_among_first a.plan a.tasks (word_jobs ks' ls) t ≡ is_among_first a.plan a.tasks (word_jobs ks ls) t
   first_begun t e =
-      first_released a (jobs_of ks ls) (jobs_of ks' ls) p
+      first_released a (word_jobs ks ls) (word_jobs ks' ls) p
       (λ q ne. let e = c.others q (ne_eqb p q (λ k. ne (sym k))) in (ap (λ (k : TaskWords). state_in q k ls) e, ap (λ (k : TaskWords). unwrap_or k.job 0) e))
       n (numbered a nobody ks ls n i) (unfinished_job a ks ls p ∙ ap is_some idle)
       (ap (λ (k : TaskWords). unwrap_or k.job 0) c.self) t (unfinished_job a ks ls t ∙ e)
@@ -109,7 +109,7 @@ module _ (a : Setup) (ks ks' : ℕ → TaskWords) (ls : Lists) (n p : ℕ) (i : 
   release_step = record {
     tasks = kept;
     apart = apart';
-    firsts = λ t x. each_task ks ks' p _ c (λ t k. is_some k.wanted ≡ true → first a (jobs_of ks' ls) t ≡ k.issued)
+    firsts = λ t x. each_task ks ks' p _ c (λ t k. is_some k.wanted ≡ true → is_among_first a.plan a.tasks (word_jobs ks' ls) t ≡ k.issued)
         (λ e. absurd (false≢true e)) (λ q e f. first_begun q (has_job a n ls q (ks q) (i.tasks q) f) ∙ i.firsts q refl f) t;
     owed = λ r lr. owed_others a ks ks' p _ c r (longest_at a.plan r) (ls r) (unlisted a n ls p (ks p) (i.tasks p) unissued r lr) (i.owed r lr);
     sound = i.sound;
@@ -171,7 +171,7 @@ module _ (a : Setup) (p r : ℕ) (ls ls' : Lists) (x : Request) (list : ls' r �
       go (inr ne) = (ap (listed q) (others r' lt ne), ap (request_of q) (others r' lt ne))
 
 module _ (a : Setup) (ks ks' : ℕ → TaskWords) (ls ls' : Lists) (n p : ℕ) (w : Wanted) (h : Bool) (i : Inv a (λ t. eqb p t) ks ls n) (wants : (ks p).wanted ≡ Some w) (not_yet : (ks p).issued ≡ false)
-    (early : first a (jobs_of ks ls) p ≡ true) (added : Added p w.mode h (ls w.resource) (ls' w.resource))
+    (early : is_among_first a.plan a.tasks (word_jobs ks ls) p ≡ true) (added : Added p w.mode h (ls w.resource) (ls' w.resource))
     (others : (q : ℕ) → q < a.resources → (q ≡ w.resource → ⊥) → ls' q ≡ ls q)
     (sound' : (r : ℕ) → r < a.resources → Sound a.told r (ls' r))
     (c : Changed ks ks' p (record { job = (ks p).job; wanted = Some w; issued = true; used = 0; waited = 0; job_waited = (ks p).job_waited; blocked = (ks p).blocked })) where
@@ -212,7 +212,7 @@ module _ (a : Setup) (ks ks' : ℕ → TaskWords) (ls ls' : Lists) (n p : ℕ) (
         ap (λ (z : Request). z.mode) (some_same (sym g ∙ entry_new)) ∙ added.mode ∙ ap (λ (z : Wanted). z.mode) same;
   }
 
-  first_new : (t : ℕ) → first a (jobs_of ks' ls') t ≡ first a (jobs_of ks ls) t
+  first_new : (t : ℕ) → is_among_first a.plan a.tasks (word_jobs ks' ls') t ≡ is_among_first a.plan a.tasks (word_jobs ks ls) t
   first_new = first_jobs a ks ks' ls ls' (same_job ks ks' p _ c refl)
 
   owed_new : (r : ℕ) → r < a.resources → OwedAll a.told r (longest_at a.plan r) (λ q. (ks' q).used) (λ q. (ks' q).waited) (ls' r)
@@ -230,7 +230,7 @@ module _ (a : Setup) (ks ks' : ℕ → TaskWords) (ls ls' : Lists) (n p : ℕ) (
   issue_step = record {
     tasks = each_task ks ks' p _ c (TaskKept a n ls') entering (λ q e. task_same a n n q (ks q) ls ls' (omega arith) (entered_others a p w.resource ls ls' added.request added.list added.party others q e) (i.tasks q));
     apart = same_apart ks ks' (same_job ks ks' p _ c refl) i.apart;
-    firsts = λ t z. each_task ks ks' p _ c (λ t k. is_some k.wanted ≡ true → first a (jobs_of ks' ls') t ≡ k.issued) (λ e. first_new p ∙ early) (λ q e f. first_new q ∙ i.firsts q e f) t;
+    firsts = λ t z. each_task ks ks' p _ c (λ t k. is_some k.wanted ≡ true → is_among_first a.plan a.tasks (word_jobs ks' ls') t ≡ k.issued) (λ e. first_new p ∙ early) (λ q e f. first_new q ∙ i.firsts q e f) t;
     owed = owed_new;
     sound = sound';
   }

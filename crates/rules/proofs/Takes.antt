@@ -9,7 +9,7 @@ use Rattle.bank.specs.declared.request.Mode.{Mode}
 use Rattle.bank.specs.declared.request.Request.{Request}
 use Rattle.rules.specs.Answers.{Answered}
 use Rattle.rules.specs.Histories.{History, lists, releases, job, wanted, issued, jobs_after, after, entry_of}
-use Rattle.rules.specs.Jobs.{Setup, first, next_issued}
+use Rattle.rules.specs.Jobs.{Setup, is_among_first, next_issued}
 use Rattle.rules.specs.Moves.{is_held}
 use Rattle.rules.specs.Promises.{BankTakes}
 use Rattle.rules.specs.Questions.{questions, bank_questions, issue_questions, next_questions}
@@ -30,7 +30,7 @@ use Rattle.rules.proofs.LiftFinish.{next_known, ended_inv, ks₁}
 use Rattle.rules.proofs.LiftGive.{Holds, holding_shape}
 use Rattle.rules.proofs.Places.{seat_left}
 use Rattle.rules.proofs.Steps.{some_none, unlisted}
-use Rattle.rules.proofs.Words.{TaskWords, words_of, held_in, jobs_of, Inv, nobody, numbered}
+use Rattle.rules.proofs.Words.{TaskWords, words_of, held_in, word_jobs, Inv, nobody, numbered}
 
 -- all of a bank's questions are answered yes
 enters : (t : Told) (r p : ℕ) (m : Mode) (xs : List Request) → r < t.resources → knows t r m ≡ true → p < 64 → is_active p xs ≡ false → length xs < t.seats → first_no (enter_questions t r p m xs) ≡ None
@@ -41,13 +41,13 @@ leaves t r p xs lr lp h = rw (lt-ltb r t.resources lr, lt-ltb p 64 lp, h) refl
 
 -- a request whose job is among the first has a seat
 pub enter_taken : (a : Setup) (set : Setting a) (x : ℕ → Bool) (ks : ℕ → TaskWords) (ls : Lists) (n : ℕ) → Inv a x ks ls n → (t r : ℕ) (m : Mode) → t < a.tasks → r < a.resources → knows a.told r m ≡ true
-    → first a (jobs_of ks ls) t ≡ true → listed t (ls r) ≡ 0 → ((q : ℕ) → x q ≡ true → listed q (ls r) ≡ 0) → first_no (enter_questions a.told r t m (ls r)) ≡ None
+    → is_among_first a.plan a.tasks (word_jobs ks ls) t ≡ true → listed t (ls r) ≡ 0 → ((q : ℕ) → x q ≡ true → listed q (ls r) ≡ 0) → first_no (enter_questions a.told r t m (ls r)) ≡ None
 enter_taken a set x ks ls n i t r m lt lr k early none exempt =
     enters a.told r t m (ls r) (omega (arith, set.there, lr)) k (omega (arith, set.few, lt)) (not_active t (ls r) none)
     (subst (λ (s : ℕ). length (ls r) < s) (sym (set.seats (omega (arith, lt))))
-    (seat_left a (jobs_of ks ls) n (numbered a x ks ls n i) set.clusters (first a (jobs_of ks ls)) (λ q e. e) (ls r) (listed_once_lem a set.known x ks ls n i r lr) (λ q l. early_of q l (x q) refl) t early none))
+    (seat_left a (word_jobs ks ls) n (numbered a x ks ls n i) set.clusters (is_among_first a.plan a.tasks (word_jobs ks ls)) (λ q e. e) (ls r) (listed_once_lem a set.known x ks ls n i r lr) (λ q l. early_of q l (x q) refl) t early none))
   where
-    early_of : (q : ℕ) → 1 ≤ listed q (ls r) → (b : Bool) → x q ≡ b → first a (jobs_of ks ls) q ≡ true
+    early_of : (q : ℕ) → 1 ≤ listed q (ls r) → (b : Bool) → x q ≡ b → is_among_first a.plan a.tasks (word_jobs ks ls) q ≡ true
     early_of q l true e = absurd (clash l (exempt q e))
       where
         clash : 1 ≤ listed q (ls r) → listed q (ls r) ≡ 0 → ⊥
@@ -63,7 +63,7 @@ own_of own bank why d takes = go (from_bank why) refl d.decided
     go false e f = e
 
 module _ (a : Setup) (set : Setting a) (h : History) (i : InvOf a h) where
-  ask_taken : (p r : ℕ) (m : Mode) → (b : Bool) → first a (jobs_after h) p ≡ b → (p < a.tasks) × (r < a.resources) × (knows a.told r m ≡ true) × (wanted p h ≡ None) → first_no (cond b (issue_questions a (after a h) p (record { resource = r; mode = m })) []) ≡ None
+  ask_taken : (p r : ℕ) (m : Mode) → (b : Bool) → is_among_first a.plan a.tasks (jobs_after h) p ≡ b → (p < a.tasks) × (r < a.resources) × (knows a.told r m ≡ true) × (wanted p h ≡ None) → first_no (cond b (issue_questions a (after a h) p (record { resource = r; mode = m })) []) ≡ None
   ask_taken p r m true e k =
       enter_taken a set nobody (words_of a h) (lists h) (releases h) i p r m k.0 k.1 k.2 e
       (unlisted a (releases h) (lists h) p (words_of a h p) (i.tasks p) ((i.tasks p).no_request k.3) r k.1) (λ q z. absurd (false≢true z))
@@ -91,7 +91,7 @@ module _ (a : Setup) (set : Setting a) (h : History) (i : InvOf a h) where
   -- the bank's questions are answered yes wherever the controller's own are
   call_taken : (call : Call) → first_no (questions a (after a h) call) ≡ None → first_no (bank_questions a (after a h) call) ≡ None
   call_taken (Release t) e = refl
-  call_taken (Ask t r m) e = let k = accepted_ask a (after a h) t r m e in ask_taken t r m (first a (jobs_after h) t) refl (k.0, k.1, k.2, (going a h t k.4).1)
+  call_taken (Ask t r m) e = let k = accepted_ask a (after a h) t r m e in ask_taken t r m (is_among_first a.plan a.tasks (jobs_after h) t) refl (k.0, k.1, k.2, (going a h t k.4).1)
   call_taken (Give t) e = let k = accepted_give a (after a h) t e in give_taken t (holding_shape (job t h) (wanted t h) (issued t h) (held_in t (words_of a h t) (lists h)) k.1) k.0 ((after a h).tasks t).state refl
   call_taken (Finish t) e = let k = accepted_finish a (after a h) t e in finish_taken t k.0 (going a h t k.1).1 (next_issued a (after a h) t) refl
   call_taken Tick e = refl

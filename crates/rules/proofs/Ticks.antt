@@ -7,7 +7,7 @@ use Rattle.bank.specs.Meaning.{Lists}
 use Rattle.bank.specs.declared.request.Request.{Request}
 use Rattle.plan.specs.Contents.{longest_at}
 use Rattle.rules.specs.Histories.{entry_of, state_of}
-use Rattle.rules.specs.Jobs.{Setup, unfinished, ready, first, blocked}
+use Rattle.rules.specs.Jobs.{Setup, unfinished, ready, is_among_first, blocked}
 use Rattle.rules.specs.Moves.{is_queued, one_more_if}
 use Rattle.rules.specs.Promises.{is_at, WithinLimit}
 use Rattle.rules.specs.Questions.{length_for}
@@ -18,7 +18,7 @@ use Rattle.rules.proofs.Gives.{At, held_entry, waits_entry, entries, exists, len
 use Rattle.rules.proofs.Places.{blocked_is, not_blocked_later, not_blocked_ready}
 use Rattle.rules.proofs.Steps.{some_none}
 use Rattle.rules.proofs.Waiting.{OwedAll, Within, owed_tick, owed_bound}
-use Rattle.rules.proofs.Words.{TaskWords, held_in, waits_in, jobs_of, TaskKept, Inv, nobody, unfinished_job, first_jobs}
+use Rattle.rules.proofs.Words.{TaskWords, held_in, waits_in, word_jobs, TaskKept, Inv, nobody, unfinished_job, first_jobs}
 
 -- the entry of a task is one of the list
 all_at : (P : Request → Type 0) (q : ℕ) (xs : List Request) (x : Request) → AllByRecursion P xs → request_of q xs ≡ Some x → P x
@@ -53,10 +53,10 @@ held_or_waits a n ls q k t f = go k.wanted refl
 
 -- a job is blocked exactly where its request waits
 module _ (a : Setup) (ks : ℕ → TaskWords) (ls : Lists) (n : ℕ) (i : Inv a nobody ks ls n) (q : ℕ) where
-  ready_is : (j : Option ℕ) (o : Option Wanted) (b h : Bool) → (ks q).job ≡ j → (ks q).wanted ≡ o → (ks q).issued ≡ b → held_in q (ks q) ls ≡ h → ready a (jobs_of ks ls) q ≡ is_ready (state_of j o b h)
+  ready_is : (j : Option ℕ) (o : Option Wanted) (b h : Bool) → (ks q).job ≡ j → (ks q).wanted ≡ o → (ks q).issued ≡ b → held_in q (ks q) ls ≡ h → ready (word_jobs ks ls) q ≡ is_ready (state_of j o b h)
   ready_is j o b h ej eo eb eh = rw (← ej, ← eo, ← eb, ← eh) refl
 
-  pub blocked_waits : blocked a (jobs_of ks ls) q ≡ waits_in q (ks q) ls
+  pub blocked_waits : blocked a.plan a.tasks (word_jobs ks ls) q ≡ waits_in q (ks q) ls
   blocked_waits = go (ks q).job (ks q).wanted (ks q).issued (held_in q (ks q) ls) refl refl refl refl
     where
       t : TaskKept a n ls q (ks q)
@@ -65,23 +65,23 @@ module _ (a : Setup) (ks : ℕ → TaskWords) (ls : Lists) (n : ℕ) (i : Inv a 
       waits_not : (ks q).issued ≡ false → waits_in q (ks q) ls ≡ false
       waits_not e = ap (λ (b : Bool). b && is_queued (entry_of q (ks q).wanted ls)) e
 
-      go : (j : Option ℕ) (o : Option Wanted) (b h : Bool) → (ks q).job ≡ j → (ks q).wanted ≡ o → (ks q).issued ≡ b → held_in q (ks q) ls ≡ h → blocked a (jobs_of ks ls) q ≡ waits_in q (ks q) ls
+      go : (j : Option ℕ) (o : Option Wanted) (b h : Bool) → (ks q).job ≡ j → (ks q).wanted ≡ o → (ks q).issued ≡ b → held_in q (ks q) ls ≡ h → blocked a.plan a.tasks (word_jobs ks ls) q ≡ waits_in q (ks q) ls
       go None o b h ej eo eb eh =
-          let idle : unfinished a (jobs_of ks ls) q ≡ false = unfinished_job a ks ls q ∙ ap is_some ej in
-          let f : first a (jobs_of ks ls) q ≡ false = rw idle refl in
-          not_blocked_later a (jobs_of ks ls) q f ∙ sym (waits_not (t.no_request (t.no_job ej)))
-      go (Some m) None b h ej eo eb eh = not_blocked_ready a (jobs_of ks ls) q (ready_is (Some m) None b h ej eo eb eh) ∙ sym (waits_not (t.no_request eo))
-      go (Some m) (Some w) false h ej eo eb eh = not_blocked_later a (jobs_of ks ls) q (i.firsts q refl (ap is_some eo) ∙ eb) ∙ sym (waits_not eb)
-      go (Some m) (Some w) true true ej eo eb eh = not_blocked_ready a (jobs_of ks ls) q (ready_is (Some m) (Some w) true true ej eo eb eh) ∙ sym (not-true (waits_in q (ks q) ls) (sym (held_or_waits a n ls q (ks q) t eb) ∙ eh))
+          let idle : unfinished (word_jobs ks ls) q ≡ false = unfinished_job a ks ls q ∙ ap is_some ej in
+          let f : is_among_first a.plan a.tasks (word_jobs ks ls) q ≡ false = rw idle refl in
+          not_blocked_later a (word_jobs ks ls) q f ∙ sym (waits_not (t.no_request (t.no_job ej)))
+      go (Some m) None b h ej eo eb eh = not_blocked_ready a (word_jobs ks ls) q (ready_is (Some m) None b h ej eo eb eh) ∙ sym (waits_not (t.no_request eo))
+      go (Some m) (Some w) false h ej eo eb eh = not_blocked_later a (word_jobs ks ls) q (i.firsts q refl (ap is_some eo) ∙ eb) ∙ sym (waits_not eb)
+      go (Some m) (Some w) true true ej eo eb eh = not_blocked_ready a (word_jobs ks ls) q (ready_is (Some m) (Some w) true true ej eo eb eh) ∙ sym (not-true (waits_in q (ks q) ls) (sym (held_or_waits a n ls q (ks q) t eb) ∙ eh))
       go (Some m) (Some w) true false ej eo eb eh =
-          blocked_is a (jobs_of ks ls) q (i.firsts q refl (ap is_some eo) ∙ eb) (ready_is (Some m) (Some w) true false ej eo eb eh) ∙ sym (waits_so (waits_in q (ks q) ls) (sym (held_or_waits a n ls q (ks q) t eb) ∙ eh))
+          blocked_is a (word_jobs ks ls) q (i.firsts q refl (ap is_some eo) ∙ eb) (ready_is (Some m) (Some w) true false ej eo eb eh) ∙ sym (waits_so (waits_in q (ks q) ls) (sym (held_or_waits a n ls q (ks q) t eb) ∙ eh))
         where
           waits_so : (b : Bool) → not b ≡ false → b ≡ true
           waits_so true e = refl
           waits_so false e = absurd (false≢true (sym e))
 
 module _ (a : Setup) (known : a.tasks ≤ length a.plan.tasks) (ks : ℕ → TaskWords) (ls : Lists) (n : ℕ) (i : Inv a nobody ks ls n)
-    (early : (q : ℕ) (w : Wanted) → (ks q).wanted ≡ Some w → held_in q (ks q) ls ≡ true → (ks q).used < length_for a q w.resource) where
+    (early : (q : ℕ) (w : Wanted) → (ks q).wanted ≡ Some w → held_in q (ks q) ls ≡ true → (ks q).used < length_for a.plan q w.resource) where
   abbrev ticking : ℕ → TaskWords
   ticking q = record {
     job = (ks q).job;
@@ -90,16 +90,16 @@ module _ (a : Setup) (known : a.tasks ≤ length a.plan.tasks) (ks : ℕ → Tas
     used = one_more_if (held_in q (ks q) ls) (ks q).used;
     waited = one_more_if (waits_in q (ks q) ls) (ks q).waited;
     job_waited = one_more_if (waits_in q (ks q) ls) (ks q).job_waited;
-    blocked = one_more_if (blocked a (jobs_of ks ls) q) (ks q).blocked;
+    blocked = one_more_if (blocked a.plan a.tasks (word_jobs ks ls) q) (ks q).blocked;
   }
 
-  in_time_lem : (q : ℕ) (w : Wanted) → (ks q).wanted ≡ Some w → held_in q (ks q) ls ≡ true → (ticking q).used ≤ length_for a q w.resource
+  in_time_lem : (q : ℕ) (w : Wanted) → (ks q).wanted ≡ Some w → held_in q (ks q) ls ≡ true → (ticking q).used ≤ length_for a.plan q w.resource
   in_time_lem q w e f = rw f (omega (arith, early q w e f))
 
   within_tick : (r : ℕ) → r < a.resources → Within (longest_at a.plan r) (λ q. (ticking q).used) (ls r)
   within_tick r lr = entries a known nobody ks ls n i r lr (λ x. holds x ≡ true → (ticking x.party).used ≤ longest_at a.plan r) (λ q x p f at h.
       let l = in_time_lem q at.wanted at.is (held_entry q r (ks q) ls x at f ∙ h) in
-      let m : length_for a q at.wanted.resource ≡ length_for a q r = ap (length_for a q) at.there in
+      let m : length_for a.plan q at.wanted.resource ≡ length_for a.plan q r = ap (length_for a.plan q) at.there in
       let u : (ticking x.party).used ≡ (ticking q).used = ap (λ (z : ℕ). (ticking z).used) p in
       omega (arith, l, m, u, length_longest a q r (omega (arith, exists a known nobody ks ls n i q r at, known))))
 

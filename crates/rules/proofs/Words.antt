@@ -7,7 +7,7 @@ use Rattle.bank.specs.Questions.{knows}
 use Rattle.bank.specs.declared.request.Request.{Request}
 use Rattle.plan.specs.Contents.{length_at, longest_at}
 use Rattle.rules.specs.Histories.{History, job, wanted, issued, used, waited, job_waited, blocked_ticks_of, entry_of, state_of}
-use Rattle.rules.specs.Jobs.{Setup, Jobs, unfinished, first}
+use Rattle.rules.specs.Jobs.{Setup, Jobs, unfinished, is_among_first}
 use Rattle.rules.specs.Moves.{is_held, is_queued}
 use Rattle.rules.specs.Promises.{is_at, WithinLimit}
 use Rattle.rules.specs.Questions.{length_for}
@@ -39,8 +39,8 @@ waits_in q k ls = k.issued && is_queued (entry_of q k.wanted ls)
 abbrev pub state_in : ℕ → TaskWords → Lists → State
 state_in q k ls = state_of k.job k.wanted k.issued (held_in q k ls)
 
-abbrev pub jobs_of : (ℕ → TaskWords) → Lists → Jobs
-jobs_of ks ls = record { state = λ q. state_in q (ks q) ls; number = λ q. unwrap_or (ks q).job 0 }
+abbrev pub word_jobs : (ℕ → TaskWords) → Lists → Jobs
+word_jobs ks ls = record { state = λ q. state_in q (ks q) ls; number = λ q. unwrap_or (ks q).job 0 }
 
 -- what a task asked for exists, and a length is declared for it
 pub record Placed (a : Setup) (q : ℕ) (w : Wanted) : Type 0 where
@@ -56,7 +56,7 @@ pub record TaskKept (a : Setup) (n : ℕ) (ls : Lists) (q : ℕ) (k : TaskWords)
   pub below : is_some k.job ≡ true → unwrap_or k.job 0 < n
   pub placed : (w : Wanted) → k.wanted ≡ Some w → Placed a q w
   pub unused : held_in q k ls ≡ false → k.used ≡ 0
-  pub in_time : (w : Wanted) → k.wanted ≡ Some w → held_in q k ls ≡ true → k.used ≤ length_for a q w.resource
+  pub in_time : (w : Wanted) → k.wanted ≡ Some w → held_in q k ls ≡ true → k.used ≤ length_for a.plan q w.resource
   pub blocked : k.blocked ≡ k.job_waited
   pub bounded : k.issued ≡ true → WithinLimit a k.waited k.wanted
   pub once : (r : ℕ) → r < a.resources → listed q (ls r) ≡ cond (k.issued && is_at r k.wanted) 1 0
@@ -67,7 +67,7 @@ pub record Inv (a : Setup) (exempt : ℕ → Bool) (ks : ℕ → TaskWords) (ls 
   pub tasks : (q : ℕ) → TaskKept a n ls q (ks q)
   pub apart : (t u : ℕ) → is_some (ks t).job ≡ true → is_some (ks u).job ≡ true → unwrap_or (ks t).job 0 ≡ unwrap_or (ks u).job 0 → t ≡ u
   -- a request is issued exactly where its job is among the first
-  pub firsts : (t : ℕ) → exempt t ≡ false → is_some (ks t).wanted ≡ true → first a (jobs_of ks ls) t ≡ (ks t).issued
+  pub firsts : (t : ℕ) → exempt t ≡ false → is_some (ks t).wanted ≡ true → is_among_first a.plan a.tasks (word_jobs ks ls) t ≡ (ks t).issued
   pub owed : (r : ℕ) → r < a.resources → OwedAll a.told r (longest_at a.plan r) (λ q. (ks q).used) (λ q. (ks q).waited) (ls r)
   pub sound : (r : ℕ) → r < a.resources → Sound a.told r (ls r)
 
@@ -94,10 +94,10 @@ unfinished_is (Some n) (Some w) false b = refl
 unfinished_is (Some n) (Some w) true true = refl
 unfinished_is (Some n) (Some w) true false = refl
 
-pub unfinished_job : (a : Setup) (ks : ℕ → TaskWords) (ls : Lists) (q : ℕ) → unfinished a (jobs_of ks ls) q ≡ is_some (ks q).job
+pub unfinished_job : (a : Setup) (ks : ℕ → TaskWords) (ls : Lists) (q : ℕ) → unfinished (word_jobs ks ls) q ≡ is_some (ks q).job
 unfinished_job a ks ls q = unfinished_is (ks q).job (ks q).wanted (ks q).issued (held_in q (ks q) ls)
 
-pub numbered : (a : Setup) (x : ℕ → Bool) (ks : ℕ → TaskWords) (ls : Lists) (n : ℕ) → Inv a x ks ls n → Numbered a (jobs_of ks ls) n
+pub numbered : (a : Setup) (x : ℕ → Bool) (ks : ℕ → TaskWords) (ls : Lists) (n : ℕ) → Inv a x ks ls n → Numbered a (word_jobs ks ls) n
 numbered a x ks ls n i = record {
   known = λ t e. (i.tasks t).known (sym (unfinished_job a ks ls t) ∙ e);
   below = λ t e. (i.tasks t).below (sym (unfinished_job a ks ls t) ∙ e);
@@ -105,9 +105,9 @@ numbered a x ks ls n i = record {
 }
 
 -- where no job begins or ends, the same jobs are among the first
-pub first_jobs : (a : Setup) (ks ks' : ℕ → TaskWords) (ls ls' : Lists) → ((q : ℕ) → (ks' q).job ≡ (ks q).job) → (t : ℕ) → first a (jobs_of ks' ls') t ≡ first a (jobs_of ks ls) t
+pub first_jobs : (a : Setup) (ks ks' : ℕ → TaskWords) (ls ls' : Lists) → ((q : ℕ) → (ks' q).job ≡ (ks q).job) → (t : ℕ) → is_among_first a.plan a.tasks (word_jobs ks' ls') t ≡ is_among_first a.plan a.tasks (word_jobs ks ls) t
 first_jobs a ks ks' ls ls' same =
-    first_same a (jobs_of ks ls) (jobs_of ks' ls')
+    first_same a (word_jobs ks ls) (word_jobs ks' ls')
     (λ t. unfinished_job a ks' ls' t ∙ ap is_some (same t) ∙ sym (unfinished_job a ks ls t))
     (λ t e. ap (λ (j : Option ℕ). unwrap_or j 0) (same t))
 

@@ -3,7 +3,7 @@ use Rattle.std.specs.Prelude.{◌≡◌, ℕ, ◌+◌, Bool, true, false, Some, 
 use Rattle.bank.specs.Meaning.{Lists, Enters, Leaves}
 use Rattle.bank.specs.declared.request.Mode.{Mode}
 use Rattle.text.specs.Questions.{first_no}
-use Rattle.rules.specs.Jobs.{Setup, Snapshot, jobs_in, first, next_issued}
+use Rattle.rules.specs.Jobs.{Setup, Snapshot, jobs_in, is_among_first, next_issued}
 use Rattle.rules.specs.Questions.{questions, bank_questions, named_by, wanted_by}
 use Rattle.rules.specs.Refusals.{RefusedBy, task_named}
 use Rattle.rules.specs.declared.answer.Asked.{Asked}
@@ -53,9 +53,9 @@ module _ (a : Setup) (s : Snapshot) where
 
   -- among the first: the request is issued; else the job is held back
   abbrev pub Asks : ℕ → Wanted → Asked → Lists → Type 0
-  Asks t w Hold new = (first a (jobs_in s) t ≡ true) × Issues t w true new
-  Asks t w Wait new = (first a (jobs_in s) t ≡ true) × Issues t w false new
-  Asks t w Back new = (first a (jobs_in s) t ≡ false) × (new ≡ s.lists)
+  Asks t w Hold new = (is_among_first a.plan a.tasks (jobs_in s) t ≡ true) × Issues t w true new
+  Asks t w Wait new = (is_among_first a.plan a.tasks (jobs_in s) t ≡ true) × Issues t w false new
+  Asks t w Back new = (is_among_first a.plan a.tasks (jobs_in s) t ≡ false) × (new ≡ s.lists)
 
   -- the request of the task that comes among the first is issued
   abbrev pub IssuesNext : Option ℕ → Option Issued → Lists → Type 0

@@ -148,7 +148,7 @@ abbrev pub blocked_ticks_of : Setup → ℕ → History → ℕ
 blocked_ticks_of a t (made ls) = 0
 blocked_ticks_of a t (called h e ls) =
     cond (begins t e || ends t e) 0
-    (one_more_if (is_tick e && blocked a (jobs_after h) t) (blocked_ticks_of a t h))
+    (one_more_if (is_tick e && blocked a.plan a.tasks (jobs_after h) t) (blocked_ticks_of a t h))
 
 -- how everything stands after a history
 abbrev pub after : Setup → History → Snapshot

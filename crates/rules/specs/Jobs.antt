@@ -1,4 +1,5 @@
--- Jobs in their clusters: which are ready, which run, which are among the first, which are blocked.
+-- Jobs in their clusters: which are ready, which run, which are among the first, which are blocked,
+-- and whose request is issued next.
 use Rattle.std.specs.Prelude.{ℕ, zero, suc, ◌+◌, Bool, cond, not, ◌&&◌, Some, None, Option, ◌==◌, nat_lt, slice_index}
 use Rattle.bank.specs.Meaning.{Lists}
 use Rattle.bank.specs.Questions.{Told}
@@ -16,11 +17,11 @@ pub record Setup : Type 0 where
   pub resources : ℕ
 
 -- the cluster of a task, and the processors of that cluster
-abbrev pub cluster_of : Setup → ℕ → ℕ
-cluster_of a t = slice_index a.plan.tasks t
+abbrev pub cluster_of : Contents → ℕ → ℕ
+cluster_of p t = slice_index p.tasks t
 
-abbrev pub processors_for : Setup → ℕ → ℕ
-processors_for a t = slice_index a.plan.clusters (cluster_of a t)
+abbrev pub processors_for : Contents → ℕ → ℕ
+processors_for p t = slice_index p.clusters (cluster_of p t)
 
 -- how a controller stands: the record of each task, the bank's lists, the clock and the accepted
 -- releases
@@ -35,39 +36,16 @@ pub record Jobs : Type 0 where
   pub state : ℕ → State
   pub number : ℕ → ℕ
 
+abbrev pub jobs_of : (ℕ → Task) → Jobs
+jobs_of tasks = record { state = λ t. (tasks t).state; number = λ t. (tasks t).release }
+
 abbrev pub jobs_in : Snapshot → Jobs
-jobs_in s = record { state = λ t. (s.tasks t).state; number = λ t. (s.tasks t).release }
+jobs_in s = jobs_of s.tasks
 
 -- how many of the numbers below n pass a test
 abbrev pub count_below : (ℕ → Bool) → ℕ → ℕ
 count_below test zero = 0
 count_below test (suc n) = cond (test n) 1 0 + count_below test n
-
-module _ (a : Setup) (j : Jobs) where
-  -- has the task an unfinished job? Is it ready?
-  abbrev pub unfinished : ℕ → Bool
-  unfinished t = not (is_idle (j.state t))
-
-  abbrev pub ready : ℕ → Bool
-  ready t = is_ready (j.state t)
-
-  -- how many jobs of t's cluster that pass a test have smaller release numbers
-  abbrev pub before : (ℕ → Bool) → ℕ → ℕ
-  before test t =
-      count_below
-      (λ u. test u && (cluster_of a u == cluster_of a t && nat_lt (j.number u) (j.number t)))
-      a.tasks
-
-  -- fewer ready jobs come before it than its cluster has processors
-  abbrev pub runs : ℕ → Bool
-  runs t = ready t && nat_lt (before ready t) (processors_for a t)
-
-  -- among the first c of the unfinished jobs, where the cluster has c processors
-  abbrev pub first : ℕ → Bool
-  first t = unfinished t && nat_lt (before unfinished t) (processors_for a t)
-
-  abbrev pub blocked : ℕ → Bool
-  blocked t = first t && not (runs t)
 
 -- of the numbers below n that pass a test, the one with the least value; of equal ones the lowest
 abbrev pub lesser : (ℕ → ℕ) → Option ℕ → ℕ → ℕ
@@ -79,25 +57,57 @@ least_below test value zero = None
 least_below test value (suc n) =
     cond (test n) (Some (lesser value (least_below test value n) n)) (least_below test value n)
 
--- the job of a task is ended
-abbrev pub ended : Snapshot → ℕ → Snapshot
-ended s t = record {
-  tasks = λ q. cond (t == q) idle_task (s.tasks q);
-  lists = s.lists;
-  clock = s.clock;
-  releases = s.releases;
-}
+-- has the task an unfinished job? Is it ready?
+abbrev pub unfinished : Jobs → ℕ → Bool
+unfinished j t = not (is_idle (j.state t))
 
-abbrev pub if_first : Setup → Jobs → Option ℕ → Option ℕ
-if_first a j None = None
-if_first a j (Some u) = cond (first a j u) (Some u) None
+abbrev pub ready : Jobs → ℕ → Bool
+ready j t = is_ready (j.state t)
 
--- the task whose request is issued when the job of t ends: the earliest held-back job of the
--- cluster, if it is then among the first
+-- the jobs of the first n tasks of a plan
+module _ (p : Contents) (n : ℕ) (j : Jobs) where
+  -- how many jobs of t's cluster that pass a test have smaller release numbers
+  abbrev pub before : (ℕ → Bool) → ℕ → ℕ
+  before test t =
+      count_below
+      (λ u. test u && (cluster_of p u == cluster_of p t && nat_lt (j.number u) (j.number t)))
+      n
+
+  -- it passes a test, and fewer jobs that do come before it than its cluster has processors
+  abbrev pub ranks : (ℕ → Bool) → ℕ → Bool
+  ranks test t = test t && nat_lt (before test t) (processors_for p t)
+
+  -- it is among the first c of the ready jobs, where the cluster has c processors
+  abbrev pub runs : ℕ → Bool
+  runs t = ranks (ready j) t
+
+  -- it is among the first c of the unfinished jobs
+  abbrev pub is_among_first : ℕ → Bool
+  is_among_first t = ranks (unfinished j) t
+
+  abbrev pub blocked : ℕ → Bool
+  blocked t = is_among_first t && not (runs t)
+
+  -- the task of the earliest held-back job of a cluster; and the one whose request is to be issued,
+  -- which is that task if its job is among the first
+  abbrev pub earliest_of : ℕ → Option ℕ
+  earliest_of g =
+      least_below (λ u. is_held_back (j.state u) && cluster_of p u == g) (λ u. j.number u) n
+
+  abbrev pub if_first : Option ℕ → Option ℕ
+  if_first None = None
+  if_first (Some u) = cond (is_among_first u) (Some u) None
+
+  abbrev pub next_of : ℕ → Option ℕ
+  next_of g = if_first (earliest_of g)
+
+-- the records where the job of a task is ended
+abbrev pub ended : (ℕ → Task) → ℕ → ℕ → Task
+ended tasks t q = cond (t == q) idle_task (tasks q)
+
+-- the task whose request is issued when the job of t ends
+abbrev pub next_after : Contents → ℕ → (ℕ → Task) → ℕ → Option ℕ
+next_after p n tasks t = next_of p n (jobs_of (ended tasks t)) (cluster_of p t)
+
 abbrev pub next_issued : Setup → Snapshot → ℕ → Option ℕ
-next_issued a s t =
-    if_first a (jobs_in (ended s t))
-    (least_below
-    (λ u. is_held_back ((ended s t).tasks u).state && cluster_of a u == cluster_of a t)
-    (λ u. ((ended s t).tasks u).release)
-    a.tasks)
+next_issued a s t = next_after a.plan a.tasks s.tasks t

@@ -7,7 +7,7 @@ use Rattle.bank.specs.Questions.{Told, knows, enter_questions, leave_questions}
 use Rattle.bank.specs.declared.request.Mode.{Mode}
 use Rattle.plan.specs.Contents.{Contents, length_at, processors, resource_count}
 use Rattle.text.specs.Questions.{Question, ask}
-use Rattle.rules.specs.Jobs.{Setup, Snapshot, jobs_in, runs, first, next_issued}
+use Rattle.rules.specs.Jobs.{Setup, Snapshot, jobs_in, runs, is_among_first, next_issued}
 use Rattle.rules.specs.States.{is_idle, is_holding, wanted_of}
 use Rattle.rules.specs.declared.call.Call.{Call}
 use Rattle.rules.specs.declared.call.Call.TheVariants.{Release, Ask, Give, Finish, Tick}
@@ -16,16 +16,16 @@ use Rattle.rules.specs.declared.task.State.TheVariants.{Holding}
 use Rattle.rules.specs.declared.task.Wanted.{Wanted}
 
 -- the declared length of a task at a resource, and 0 where none is
-abbrev pub length_for : Setup → ℕ → ℕ → ℕ
-length_for a t r = unwrap_or (length_at a.plan t r) 0
+abbrev pub length_for : Contents → ℕ → ℕ → ℕ
+length_for p t r = unwrap_or (length_at p t r) 0
 
 -- a holder has used all of its declared length
-abbrev pub late_in : Setup → ℕ → ℕ → State → Bool
-late_in a t used (Holding w) = nat_le (length_for a t w.resource) used
-late_in a t used _ = false
+abbrev pub late_in : Contents → ℕ → ℕ → State → Bool
+late_in p t used (Holding w) = nat_le (length_for p t w.resource) used
+late_in p t used _ = false
 
 abbrev pub late : Setup → Snapshot → ℕ → Bool
-late a s t = late_in a t (s.tasks t).used (s.tasks t).state
+late a s t = late_in a.plan t (s.tasks t).used (s.tasks t).state
 
 -- the lowest of the numbers below n that passes a test
 abbrev pub lowest_below : (ℕ → Bool) → ℕ → Option ℕ
@@ -39,7 +39,7 @@ late_task a s = lowest_below (late a s) a.tasks
 -- the job runs and holds nothing
 abbrev pub work_questions : Setup → Snapshot → ℕ → List Question
 work_questions a s t =
-    ask 7 (runs a (jobs_in s) t)
+    ask 7 (runs a.plan a.tasks (jobs_in s) t)
     ∷ ask 8 (not (is_holding (s.tasks t).state))
     ∷ []
 
@@ -85,7 +85,7 @@ next_questions a s (Some u) = issue_questions a s u (wanted_by s u)
 abbrev pub bank_questions : Setup → Snapshot → Call → List Question
 bank_questions a s (Release t) = []
 bank_questions a s (Ask t r m) =
-    cond (first a (jobs_in s) t) (issue_questions a s t (record { resource = r; mode = m })) []
+    cond (is_among_first a.plan a.tasks (jobs_in s) t) (issue_questions a s t (record { resource = r; mode = m })) []
 bank_questions a s (Give t) =
     leave_questions a.told (wanted_by s t).resource t (s.lists (wanted_by s t).resource)
 bank_questions a s (Finish t) = next_questions a s (next_issued a s t)

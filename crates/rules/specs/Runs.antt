@@ -26,7 +26,7 @@ pub record Unfit (a : Setup) (lists : Lists) : Type 0 where
 pub record SetUp (a : Setup) (lists : Lists) : Type 0 where
   pub small : Small a.told
   pub few : a.tasks ≤ 64
-  pub clusters : (t : ℕ) → t < a.tasks → cluster_of a t < length a.plan.clusters
+  pub clusters : (t : ℕ) → t < a.tasks → cluster_of a.plan t < length a.plan.clusters
   pub fitting : Fitting a lists ⊎ Unfit a lists
 
 -- every task is idle, at clock 0

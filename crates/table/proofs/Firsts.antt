@@ -6,11 +6,12 @@ use Rattle.std.specs.Ordering.{is_lt, nat_cmp, ordering_then}
 use Rattle.order.specs.declared.elements.Holder.{Holder}
 use Rattle.order.specs.declared.elements.Job.{Job}
 use Rattle.plan.specs.Contents.{Contents}
-use Rattle.rules.specs.Holders.{task_and_left}
+use Rattle.rules.specs.Holders.{nearest_of, task_and_left, ticks_left}
+use Rattle.rules.specs.Jobs.{earliest_of, jobs_of}
 use Rattle.rules.specs.States.{is_held_back, is_holding, idle_task}
 use Rattle.rules.specs.declared.task.Task.{Task}
 use Rattle.table.specs.Members.{members_of}
-use Rattle.table.specs.Rows.{job_at, earliest_of, left_of, nearest_of}
+use Rattle.table.specs.Rows.{job_at}
 use Rattle.table.specs.declared.selection.Selection.TheVariants.{HeldBack}
 use Rattle.table.proofs.Ranks.{job_before}
 use Rattle.table.proofs.Selected.{of_filter, row, first_found, first_none}
@@ -44,13 +45,13 @@ module _ (p : Contents) (n : ℕ) (tasks : ℕ → Task) (g : ℕ) (known : n �
   held_known : (k : ℕ) → (held k && inside k) ≡ true → k < n
   held_known k e = below_end n tasks (λ t. is_held_back t.state) idle refl k (and_parts (held k) (inside k) e).0
 
-  pub earliest_some : (jobs : List Job) (b : ℕ) (d : Job) → jobs ≡ filter_map (job_at tasks HeldBack) (members_of p g) → IsFirstBest job_before jobs (length jobs) b → Some (get_or jobs b d).task ≡ earliest_of p n tasks g
+  pub earliest_some : (jobs : List Job) (b : ℕ) (d : Job) → jobs ≡ filter_map (job_at tasks HeldBack) (members_of p g) → IsFirstBest job_before jobs (length jobs) b → Some (get_or jobs b d).task ≡ earliest_of p n (jobs_of tasks) g
   earliest_some jobs b d are best =
       let same = are ∙ same_row in
       let found = first_found (λ u. held u && inside u) job_of (λ y z. ordering_then (nat_cmp y.release z.release) (nat_cmp y.task z.task)) (λ u. (tasks u).release) (length p.tasks) n known held_known (λ j k. refl) b d (subst (λ xs. IsFirstBest job_before xs (length xs) b) same best) in
       ap (λ (y : Job). Some y.task) (ap (λ xs. get_or xs b d) same ∙ found.2) ∙ sym found.1
 
-  pub earliest_none : (jobs : List Job) → jobs ≡ filter_map (job_at tasks HeldBack) (members_of p g) → length jobs ≡ 0 → None ≡ earliest_of p n tasks g
+  pub earliest_none : (jobs : List Job) → jobs ≡ filter_map (job_at tasks HeldBack) (members_of p g) → length jobs ≡ 0 → None ≡ earliest_of p n (jobs_of tasks) g
   earliest_none jobs are none = sym (first_none (λ u. held u && inside u) job_of (λ y z. ordering_then (nat_cmp y.release z.release) (nat_cmp y.task z.task)) (λ u. (tasks u).release) (length p.tasks) n known held_known (λ j k. refl) (sym (ap length (are ∙ same_row)) ∙ none))
 
 -- the holder nearest its end
@@ -59,15 +60,15 @@ module _ (p : Contents) (n : ℕ) (tasks : ℕ → Task) (idle : (q : ℕ) → n
   holds t = is_holding (tasks t).state
 
   abbrev holder_of : ℕ → Holder
-  holder_of t = record { left = left_of p tasks t; task = t }
+  holder_of t = record { left = ticks_left p tasks t; task = t }
 
   holds_known : (k : ℕ) → holds k ≡ true → k < n
   holds_known k e = below_end n tasks (λ t. is_holding t.state) idle refl k e
 
   pub nearest_some : (holders : List Holder) (b : ℕ) (d : Holder) → holders ≡ row holds holder_of n → IsFirstBest holder_before holders (length holders) b → Some ((get_or holders b d).task, (get_or holders b d).left) ≡ nearest_of p n tasks
   nearest_some holders b d are best =
-      let found = first_found holds holder_of (λ y z. ordering_then (nat_cmp y.left z.left) (nat_cmp y.task z.task)) (left_of p tasks) n n (omega arith) holds_known (λ j k. refl) b d (subst (λ xs. IsFirstBest holder_before xs (length xs) b) are best) in
-      ap (λ (y : Holder). Some (y.task, y.left)) (ap (λ xs. get_or xs b d) are ∙ found.2) ∙ sym (ap (task_and_left (left_of p tasks)) found.1)
+      let found = first_found holds holder_of (λ y z. ordering_then (nat_cmp y.left z.left) (nat_cmp y.task z.task)) (ticks_left p tasks) n n (omega arith) holds_known (λ j k. refl) b d (subst (λ xs. IsFirstBest holder_before xs (length xs) b) are best) in
+      ap (λ (y : Holder). Some (y.task, y.left)) (ap (λ xs. get_or xs b d) are ∙ found.2) ∙ sym (ap (task_and_left (ticks_left p tasks)) found.1)
 
   pub nearest_none : (holders : List Holder) → holders ≡ row holds holder_of n → length holders ≡ 0 → None ≡ nearest_of p n tasks
-  nearest_none holders are none = sym (ap (task_and_left (left_of p tasks)) (first_none holds holder_of (λ y z. ordering_then (nat_cmp y.left z.left) (nat_cmp y.task z.task)) (left_of p tasks) n n (omega arith) holds_known (λ j k. refl) (sym (ap length are) ∙ none)))
+  nearest_none holders are none = sym (ap (task_and_left (ticks_left p tasks)) (first_none holds holder_of (λ y z. ordering_then (nat_cmp y.left z.left) (nat_cmp y.task z.task)) (ticks_left p tasks) n n (omega arith) holds_known (λ j k. refl) (sym (ap length are) ∙ none)))

@@ -1,14 +1,11 @@
 -- The jobs and holders of a table.
-use Rattle.std.specs.Prelude.{◌≡◌, ℕ, ◌-◌, Bool, true, false, cond, not, ◌&&◌, List, Some, None, Option, ◌==◌, nat_le, nat_lt, slice_index, slice_index_or}
-use Rattle.std.specs.Option.{unwrap_or}
-use Rattle.bank.specs.Meaning.{Lists}
-use Rattle.bank.specs.Questions.{Told}
+use Rattle.std.specs.Prelude.{◌≡◌, ℕ, Bool, true, false, cond, not, ◌&&◌, List, Some, None, Option, ◌==◌, nat_le, nat_lt, slice_index_or}
 use Rattle.order.specs.declared.elements.Holder.{Holder}
 use Rattle.order.specs.declared.elements.Job.{Job}
 use Rattle.plan.specs.Contents.{Contents, length_at}
-use Rattle.rules.specs.Holders.{task_and_left}
-use Rattle.rules.specs.Jobs.{Jobs, Setup, Snapshot, count_below, least_below}
-use Rattle.rules.specs.States.{is_idle, is_ready, is_held_back, is_holding, wanted_of, idle_task}
+use Rattle.rules.specs.Holders.{ticks_left}
+use Rattle.rules.specs.Jobs.{cluster_of, ended}
+use Rattle.rules.specs.States.{is_idle, is_ready, is_held_back, is_holding, idle_task}
 use Rattle.rules.specs.declared.task.State.{State}
 use Rattle.rules.specs.declared.task.State.TheVariants.{Idle, Going, HeldBack as Held, Waiting, Holding}
 use Rattle.rules.specs.declared.task.Task.{Task}
@@ -22,10 +19,7 @@ tasks_in n rows q = cond (nat_lt q n) (slice_index_or rows q idle_task) idle_tas
 -- the same, where the job of one task, if it is named, is looked at as ended
 abbrev pub without : Option ℕ → (ℕ → Task) → ℕ → Task
 without None tasks = tasks
-without (Some t) tasks = λ q. cond (t == q) idle_task (tasks q)
-
-abbrev pub jobs_of : (ℕ → Task) → Jobs
-jobs_of tasks = record { state = λ q. (tasks q).state; number = λ q. (tasks q).release }
+without (Some t) tasks = ended tasks t
 
 abbrev pub selects : Selection → State → Bool
 selects Unfinished st = not (is_idle st)
@@ -42,29 +36,7 @@ job_at tasks which q =
 abbrev pub comes_before : Contents → (ℕ → Task) → Selection → ℕ → ℕ → ℕ → Bool
 comes_before p tasks which g release q =
     selects which (tasks q).state
-    && (slice_index p.tasks q == g && nat_lt (tasks q).release release)
-
--- fewer selected jobs come before it than its cluster has processors
-abbrev pub ranks_among : Contents → ℕ → (ℕ → Task) → Selection → ℕ → Bool
-ranks_among p n tasks which t =
-    selects which (tasks t).state
-    && nat_lt
-    (count_below (comes_before p tasks which (slice_index p.tasks t) (tasks t).release) n)
-    (slice_index p.clusters (slice_index p.tasks t))
-
-abbrev pub setup_with : Contents → Told → ℕ → ℕ → Setup
-setup_with p told n k = record { plan = p; told = told; tasks = n; resources = k }
-
--- how the tasks of a table stand, beside the lists of a bank, a clock and a number of releases
-abbrev pub snapshot_with : (ℕ → Task) → Lists → ℕ → ℕ → Snapshot
-snapshot_with tasks ls clock releases =
-    record { tasks = tasks; lists = ls; clock = clock; releases = releases }
-
--- the task of the earliest held-back job of a cluster
-abbrev pub earliest_of : Contents → ℕ → (ℕ → Task) → ℕ → Option ℕ
-earliest_of p n tasks g =
-    least_below (λ u. is_held_back (tasks u).state && slice_index p.tasks u == g)
-    (λ u. (tasks u).release) n
+    && (cluster_of p q == g && nat_lt (tasks q).release release)
 
 -- n ticks are within a length that is declared
 abbrev pub is_within : ℕ → Option ℕ → Bool
@@ -83,16 +55,6 @@ abbrev pub KeepsLengths : Contents → (ℕ → Task) → Type 0
 KeepsLengths p tasks = (q : ℕ) → keeps_length p q (tasks q).used (tasks q).state ≡ true
 
 -- a holder by the ticks that it has left
-abbrev pub left_of : Contents → (ℕ → Task) → ℕ → ℕ
-left_of p tasks t =
-    unwrap_or (length_at p t (wanted_of (tasks t).state).resource) 0 - (tasks t).used
-
 abbrev pub holder_at : Contents → (ℕ → Task) → ℕ → Option Holder
 holder_at p tasks t =
-    cond (is_holding (tasks t).state) (Some (record { left = left_of p tasks t; task = t })) None
-
--- the holder with the fewest ticks left, of equal ones the lowest: its task and its ticks left
-abbrev pub nearest_of : Contents → ℕ → (ℕ → Task) → Option (ℕ × ℕ)
-nearest_of p n tasks =
-    task_and_left (left_of p tasks)
-    (least_below (λ t. is_holding (tasks t).state) (left_of p tasks) n)
+    cond (is_holding (tasks t).state) (Some (record { left = ticks_left p tasks t; task = t })) None

@@ -1,10 +1,8 @@
-ghost use Rattle.std.specs.Prelude.{◌≡◌, ℕ, ◌<◌};
+ghost use Rattle.std.specs.Prelude.{◌≡◌, ◌<◌};
 ghost use Rattle.std.specs.List.{filter_map, range_with_len};
 ghost use Rattle.plan.specs.Of.{plan_contents};
-ghost use Rattle.bank.specs.Meaning.{Lists};
-ghost use Rattle.bank.specs.Questions.{Told};
-ghost use Rattle.rules.specs.Holders.{IsNearestEnd};
-ghost use Rattle.table.specs.Rows.{holder_at, nearest_of, setup_with, snapshot_with};
+ghost use Rattle.rules.specs.Holders.{IsNearestEnd, nearest_of};
+ghost use Rattle.table.specs.Rows.{holder_at};
 ghost use Rattle.table.specs.Tables.{records_of};
 
 use crate::table::Table;
@@ -62,9 +60,8 @@ impl Table<'_> {
     pub fn nearest_end(&self) -> Option<(u32, u32)>
         ensures value { result ≡ nearest_of (plan_contents self.now.plan.now) self.now.tasks
             (records_of self.now) }
-        ensures nearest { (told : Told) (k : ℕ) (ls : Lists) (clock releases : ℕ) → IsNearestEnd
-            (setup_with (plan_contents self.now.plan.now) told self.now.tasks k)
-            (snapshot_with (records_of self.now) ls clock releases) result }
+        ensures nearest { IsNearestEnd (plan_contents self.now.plan.now) (records_of self.now)
+            result }
     {
         self.nearest()
     }

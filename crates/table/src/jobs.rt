@@ -1,10 +1,9 @@
 ghost use Rattle.std.specs.Prelude.{◌≡◌, ℕ, ◌+◌, ◌<◌, ◌≤◌, ◌++◌, length};
 ghost use Rattle.std.specs.List.{filter_map};
 ghost use Rattle.arrayvec.specs.ArrayVec.{array_vec_len};
-ghost use Rattle.bank.specs.Questions.{Told};
 ghost use Rattle.plan.specs.Of.{plan_contents};
-ghost use Rattle.rules.specs.Jobs.{count_below, runs, first};
-ghost use Rattle.table.specs.Rows.{job_at, comes_before, ranks_among, setup_with, jobs_of};
+ghost use Rattle.rules.specs.Jobs.{count_below, is_among_first, jobs_of, ranks, runs};
+ghost use Rattle.table.specs.Rows.{comes_before, job_at, selects};
 ghost use Rattle.table.specs.Tables.{records_of};
 
 use crate::selection::Selection;
@@ -78,8 +77,9 @@ impl Table<'_> {
 
     // Whether the job of a task is selected, and fewer such come before it than its cluster has processors.
     fn ranks(&self, which: Selection, task: usize) -> bool
-        ensures { result ≡ ranks_among (plan_contents self.now.plan.now) self.now.tasks
-            (records_of self.now) which task }
+        ensures { result ≡ ranks (plan_contents self.now.plan.now) self.now.tasks
+            (jobs_of (records_of self.now))
+            (λ u. selects which (records_of self.now u).state) task }
     {
         let Task { state, release, .. } = self.task(task);
         which.has(state)
@@ -90,8 +90,7 @@ impl Table<'_> {
     /// Whether the job of a task is ready and runs: fewer ready jobs of its cluster were released
     /// before it than the cluster has processors.
     pub fn runs(&self, task: usize) -> bool
-        ensures { (told : Told) (k : ℕ) → result ≡ runs
-            (setup_with (plan_contents self.now.plan.now) told self.now.tasks k)
+        ensures { result ≡ runs (plan_contents self.now.plan.now) self.now.tasks
             (jobs_of (records_of self.now)) task }
     {
         self.ranks(Selection::Ready, task)
@@ -100,8 +99,7 @@ impl Table<'_> {
     /// Whether the job of a task is among the first of its cluster: fewer unfinished jobs of the
     /// cluster were released before it than the cluster has processors.
     pub fn is_first(&self, task: usize) -> bool
-        ensures { (told : Told) (k : ℕ) → result ≡ first
-            (setup_with (plan_contents self.now.plan.now) told self.now.tasks k)
+        ensures { result ≡ is_among_first (plan_contents self.now.plan.now) self.now.tasks
             (jobs_of (records_of self.now)) task }
     {
         self.ranks(Selection::Unfinished, task)
