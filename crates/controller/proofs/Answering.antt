@@ -4,7 +4,7 @@ use Rattle.bank.specs.Meaning.{Lists}
 use Rattle.bank.specs.declared.request.Mode.{Mode}
 use Rattle.text.specs.Questions.{first_no}
 use Rattle.rules.specs.Answers.{asked, Answered}
-use Rattle.rules.specs.Jobs.{Setup, Snapshot, jobs_in, first}
+use Rattle.rules.specs.Jobs.{Setup, Snapshot, jobs_in, is_among_first}
 use Rattle.rules.specs.Questions.{questions, bank_questions, issue_questions}
 use Rattle.rules.specs.declared.answer.Asked.{Asked}
 use Rattle.rules.specs.declared.answer.Asked.TheVariants.{Hold, Wait, Back}
@@ -12,12 +12,12 @@ use Rattle.rules.specs.declared.call.Call.TheVariants.{Ask}
 use Rattle.rules.specs.declared.refusal.Refusal.{Refusal}
 use Rattle.controller.specs.Issues.{Asks}
 
-pub ask_answered : (a : Setup) (s : Snapshot) (t r : ℕ) (m : Mode) (is_first : Bool) (x : Asked) (new : Lists) → is_first ≡ first a (jobs_in s) t → first_no (questions a s (Ask t r m)) ≡ None → Asks a.told is_first t r m (Ok x) s.lists new → Answered a s (asked t r m (Ok x)) new
+pub ask_answered : (a : Setup) (s : Snapshot) (t r : ℕ) (m : Mode) (is_first : Bool) (x : Asked) (new : Lists) → is_first ≡ is_among_first a.plan a.tasks (jobs_in s) t → first_no (questions a s (Ask t r m)) ≡ None → Asks a.told is_first t r m (Ok x) s.lists new → Answered a s (asked t r m (Ok x)) new
 ask_answered a s t r m is_first Hold new e own done = record { passed = own; gives = (sym e ∙ done.0, done.1) }
 ask_answered a s t r m is_first Wait new e own done = record { passed = own; gives = (sym e ∙ done.0, done.1) }
 ask_answered a s t r m is_first Back new e own done = record { passed = own; gives = (sym e ∙ done.0, done.1) }
 
-pub ask_refused : (a : Setup) (s : Snapshot) (t r : ℕ) (m : Mode) (is_first : Bool) (why : Refusal) (new : Lists) → is_first ≡ first a (jobs_in s) t → first_no (questions a s (Ask t r m)) ≡ None → Asks a.told is_first t r m (Err why) s.lists new → Answered a s (asked t r m (Err why)) new
+pub ask_refused : (a : Setup) (s : Snapshot) (t r : ℕ) (m : Mode) (is_first : Bool) (why : Refusal) (new : Lists) → is_first ≡ is_among_first a.plan a.tasks (jobs_in s) t → first_no (questions a s (Ask t r m)) ≡ None → Asks a.told is_first t r m (Err why) s.lists new → Answered a s (asked t r m (Err why)) new
 ask_refused a s t r m is_first why new e own done =
     record {
       by =

@@ -6,7 +6,7 @@ use Rattle.bank.specs.Questions.{number as bank_number}
 use Rattle.bank.specs.declared.refusal.Refusal.{Refusal as BankRefusal}
 use Rattle.text.specs.Questions.{first_no}
 use Rattle.rules.specs.Answers.{finished, Answered, Issues, IssuesNext}
-use Rattle.rules.specs.Jobs.{Setup, Snapshot, cluster_of, ended, first, jobs_in, least_below, if_first, next_issued}
+use Rattle.rules.specs.Jobs.{Setup, Snapshot, cluster_of, ended, is_among_first, jobs_of, least_below, if_first, next_issued}
 use Rattle.rules.specs.Questions.{questions, issue_questions, next_questions, wanted_by}
 use Rattle.rules.specs.States.{is_held_back, idle_task}
 use Rattle.rules.specs.declared.call.Call.TheVariants.{Finish}
@@ -25,19 +25,19 @@ pub is_next : (a : Setup) (s : Snapshot) (t u : ℕ) → Some u ≡ next_issued 
 is_next a s t u e = go (least_below test value a.tasks) refl (sym e)
   where
     test : ℕ → Bool
-    test v = is_held_back ((ended s t).tasks v).state && eqb (cluster_of a v) (cluster_of a t)
+    test v = is_held_back (ended s.tasks t v).state && eqb (cluster_of a.plan v) (cluster_of a.plan t)
 
     value : ℕ → ℕ
-    value v = ((ended s t).tasks v).release
+    value v = (ended s.tasks t v).release
 
-    of : (v : ℕ) → v < a.tasks → is_held_back ((ended s t).tasks v).state ≡ true → (b : Bool) → eqb t v ≡ b → IsNext a s t v
+    of : (v : ℕ) → v < a.tasks → is_held_back (ended s.tasks t v).state ≡ true → (b : Bool) → eqb t v ≡ b → IsNext a s t v
     of v lt h true f = absurd (false≢true (ap (λ (b : Bool). is_held_back (cond b idle_task (s.tasks v)).state) (sym f) ∙ h))
     of v lt h false f = record { known = lt; other = f; held_back = ap (λ (b : Bool). is_held_back (cond b idle_task (s.tasks v)).state) (sym f) ∙ h }
 
-    go : (x : Option ℕ) → least_below test value a.tasks ≡ x → if_first a (jobs_in (ended s t)) x ≡ Some u → IsNext a s t u
+    go : (x : Option ℕ) → least_below test value a.tasks ≡ x → if_first a.plan a.tasks (jobs_of (ended s.tasks t)) x ≡ Some u → IsNext a s t u
     go None f h = let z : ◌≡◌ {A = ℕ} 0 1 = cc in absurd (omega arith)
     go (Some v) f h =
-        let same = present (first a (jobs_in (ended s t)) v) v u h in
+        let same = present (is_among_first a.plan a.tasks (jobs_of (ended s.tasks t)) v) v u h in
         let found = least_some test value a.tasks v f in
         subst (IsNext a s t) same.1 (of v found.1 (and_parts _ _ found.0).0 (eqb t v) refl)
 

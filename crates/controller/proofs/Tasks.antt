@@ -92,7 +92,7 @@ ticked_within : (n : ℕ) (o : Option ℕ) → leb (unwrap_or o 0) n ≡ false �
 ticked_within n None e k = absurd (false≢true k)
 ticked_within n (Some l) e k = le-leb (n + 1) l (omega (arith, leb-false l n e))
 
-lengths_ticked : (a : Setup) (t : ℕ) (st : State) (k : Task) → k.state ≡ st → late_in a t k.used st ≡ false → keeps_length a.plan t k.used st ≡ true → keeps_length a.plan t (ticked_state st k).used (ticked_state st k).state ≡ true
+lengths_ticked : (a : Setup) (t : ℕ) (st : State) (k : Task) → k.state ≡ st → late_in a.plan t k.used st ≡ false → keeps_length a.plan t k.used st ≡ true → keeps_length a.plan t (ticked_state st k).used (ticked_state st k).state ≡ true
 lengths_ticked a t Idle k e late kept = rw e refl
 lengths_ticked a t Going k e late kept = rw e refl
 lengths_ticked a t (HeldBack w) k e late kept = ap (keeps_length a.plan t k.used) e ∙ kept
@@ -115,7 +115,7 @@ pub on_time_all : (a : Setup) (s : Snapshot) → ((q : ℕ) → a.tasks ≤ q �
 on_time_all a s idle none q =
     ⊎_elim
     (λ (l : q < a.tasks). lowest_none (late a s) a.tasks none q l)
-    (λ (far : a.tasks ≤ q). ap (λ (k : Task). late_in a q k.used k.state) (idle q far))
+    (λ (far : a.tasks ≤ q). ap (λ (k : Task). late_in a.plan q k.used k.state) (idle q far))
     (cases_lt q a.tasks)
 
 -- a tick changes nothing of a record but its ticks

@@ -44,4 +44,5 @@ next_state Tick st = st
 
 abbrev pub call_questions : Setup → Snapshot → Call → ℕ → List Question
 call_questions a s call t =
-    ask 1 (nat_lt t a.tasks) ∷ state_questions call (runs a (jobs_in s) t) (s.tasks t).state
+    ask 1 (nat_lt t a.tasks)
+    ∷ state_questions call (runs a.plan a.tasks (jobs_in s) t) (s.tasks t).state

@@ -9,7 +9,7 @@ use Rattle.plan.specs.Contents.{Contents, longest_at}
 use Rattle.rules.specs.Answers.{released, asked, gave, finished, ticked, Answered}
 use Rattle.rules.specs.Histories.{History, made, called, lists, job, wanted, issued, holding, waiting, state}
 use Rattle.rules.specs.Histories.{jobs_after, used, waited, job_waited, blocked_ticks_of, after}
-use Rattle.rules.specs.Jobs.{Setup, runs, first, blocked, next_issued}
+use Rattle.rules.specs.Jobs.{Setup, runs, is_among_first, blocked, next_issued}
 use Rattle.rules.specs.Questions.{late_task, questions}
 use Rattle.rules.specs.declared.answer.Asked.TheVariants.{Hold, Wait, Back}
 use Rattle.rules.specs.declared.call.Call.{Call as Asking}
@@ -210,11 +210,11 @@ Said h (c ∷ cs) =
 -- which jobs run, are among the first and are blocked after the seventh call
 abbrev pub JobsHold : Type 0
 JobsHold =
-    (runs setup (jobs_after (history 7)) 0 ≡ true)
-    × (first setup (jobs_after (history 7)) 1 ≡ true)
-    × (blocked setup (jobs_after (history 7)) 1 ≡ true)
-    × (first setup (jobs_after (history 7)) 2 ≡ false)
-    × (blocked setup (jobs_after (history 7)) 2 ≡ false)
+    (runs plan 3 (jobs_after (history 7)) 0 ≡ true)
+    × (is_among_first plan 3 (jobs_after (history 7)) 1 ≡ true)
+    × (blocked plan 3 (jobs_after (history 7)) 1 ≡ true)
+    × (is_among_first plan 3 (jobs_after (history 7)) 2 ≡ false)
+    × (blocked plan 3 (jobs_after (history 7)) 2 ≡ false)
 
 -- who is late at the tick that is refused, whose request the end of 0 issues,
 -- and that 1 may not ask while it holds

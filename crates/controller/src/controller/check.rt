@@ -1,4 +1,5 @@
 ghost use Rattle.std.specs.Prelude.{◌≡◌, true};
+ghost use Rattle.plan.specs.Of.{plan_contents};
 ghost use Rattle.rules.specs.Jobs.{jobs_in, runs};
 ghost use Rattle.rules.specs.declared.task.State.{State as Status};
 ghost use Rattle.controller.specs.Checks.{Moves, state_questions, call_questions, next_state};
@@ -14,8 +15,11 @@ use rules::task::State;
 impl<B: Bank> Controller<B> {
     // Whether the job of a task runs, for a call that asks for it.
     fn running(&self, t: usize, call: Call) -> bool
-        ensures so { result ≡ true → runs (setup_of B.Bank self.now) (jobs_in (snapshot_of B.Bank self.now)) t ≡ true }
-        ensures same { (state : Status) → state_questions call result state ≡ state_questions call (runs (setup_of B.Bank self.now) (jobs_in (snapshot_of B.Bank self.now)) t) state }
+        ensures so { result ≡ true → runs (plan_contents self.now.plan) self.now.tasks
+            (jobs_in (snapshot_of B.Bank self.now)) t ≡ true }
+        ensures same { (state : Status) → state_questions call result state
+            ≡ state_questions call (runs (plan_contents self.now.plan) self.now.tasks
+                (jobs_in (snapshot_of B.Bank self.now)) t) state }
     {
         match call {
             Call::Ask { .. } | Call::Finish(_) => self.jobs().runs(t),

@@ -1,6 +1,7 @@
 ghost use Rattle.std.specs.Prelude.{◌≡◌};
 ghost use Rattle.controller.specs.Limits.{TellsLimit, TellsTurns};
 ghost use Rattle.controller.specs.Of.{setup_of, snapshot_of};
+ghost use Rattle.plan.specs.Of.{plan_contents};
 ghost use Rattle.rules.specs.Histories.{History, after, pending};
 ghost use Rattle.rules.specs.Holders.{IsNearestEnd, nearest_end};
 ghost use Rattle.rules.specs.Runs.{Runs};
@@ -48,11 +49,12 @@ impl<B: Bank> Controller<B> {
     pub fn nearest_end(&self) -> Option<(u32, u32)>
         ensures value { result ≡ nearest_end (setup_of B.Bank self.now)
             (snapshot_of B.Bank self.now) }
-        ensures nearest { IsNearestEnd (setup_of B.Bank self.now) (snapshot_of B.Bank self.now)
-            result }
+        ensures nearest { IsNearestEnd (plan_contents self.now.plan)
+            (snapshot_of B.Bank self.now).tasks result }
         ensures run { (h : History)
             → Runs (setup_of B.Bank self.now) (snapshot_of B.Bank self.now) h
-            → IsNearestEnd (setup_of B.Bank self.now) (after (setup_of B.Bank self.now) h) result }
+            → IsNearestEnd (plan_contents self.now.plan) (after (setup_of B.Bank self.now) h).tasks
+                result }
     {
         self.nearest()
     }

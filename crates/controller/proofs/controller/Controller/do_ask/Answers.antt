@@ -27,7 +27,7 @@ returns-in_err-answer g c =
     let a = setup_of b self in
     let s = snapshot_of b self in
     let e = c.in_err-answer.ensures in
-    let first = rw (c.jobs.ensures.ended, c.jobs.ensures.plan, c.jobs.ensures.tasks, c.jobs.ensures.rows) at (c.is_first-first.ensures a.told a.resources) in
+    let first = rw (c.jobs.ensures.ended, c.jobs.ensures.plan, c.jobs.ensures.tasks, c.jobs.ensures.rows) at c.is_first-first.ensures in
     let p = err_from_is_err_and c.from_residual-in_err-answer.result c.from_residual-in_err-answer.ensures.1 in
     rw (p.1, p.2) (record {
       setup = same_setup (plan_contents self.plan) self.tasks self.resources _ _ e.told;
@@ -77,7 +77,7 @@ returns g c =
     let t = c.args.task in
     let e = c.in_ok-answer.ensures in
     let known = c.in_ok-back.ensures.0 in
-    let first = rw (c.jobs.ensures.ended, c.jobs.ensures.plan, c.jobs.ensures.tasks, c.jobs.ensures.rows) at (c.is_first-first.ensures a.told a.resources) in
+    let first = rw (c.jobs.ensures.ended, c.jobs.ensures.plan, c.jobs.ensures.tasks, c.jobs.ensures.rows) at c.is_first-first.ensures in
     let lt : t < self.tasks = ltb-true _ _ (yes_parts 1 _ _ known).0 in
     let here : t < 64 = omega arith in
     let wanted : Wanted = record { resource = c.args.resource; mode = c.args.mode } in

@@ -9,4 +9,4 @@ returns g c =
     let self = c.args.self.now in
     let a = setup_of g.B.Bank self in
     let s = snapshot_of g.B.Bank self in
-    rw (c.jobs.ensures.plan, c.jobs.ensures.tasks, c.jobs.ensures.rows) at (c.next_after.ensures a.told a.resources s.lists s.clock s.releases) ∙ cond-true (ltb c.args.t self.tasks) (next_issued a s c.args.t) None (lt-ltb c.args.t self.tasks c.requires)
+    rw (c.jobs.ensures.plan, c.jobs.ensures.tasks, c.jobs.ensures.rows) at c.next_after.ensures ∙ cond-true (ltb c.args.t self.tasks) (next_issued a s c.args.t) None (lt-ltb c.args.t self.tasks c.requires)

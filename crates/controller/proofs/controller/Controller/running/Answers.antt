@@ -7,5 +7,5 @@ use Rattle.controller.proofs.controller.Controller.running.Goals as goal
 pub returns-in-Ask : goal.returns-in-Ask
 returns-in-Ask g c =
     let a = setup_of g.B.Bank c.args.self.now in
-    let is : c.runs.result ≡ runs a (jobs_in (snapshot_of g.B.Bank c.args.self.now)) c.args.t = rw (c.jobs.ensures.ended, c.jobs.ensures.plan, c.jobs.ensures.tasks, c.jobs.ensures.rows) at (c.runs.ensures a.told a.resources) in
+    let is : c.runs.result ≡ runs a.plan a.tasks (jobs_in (snapshot_of g.B.Bank c.args.self.now)) c.args.t = rw (c.jobs.ensures.ended, c.jobs.ensures.plan, c.jobs.ensures.tasks, c.jobs.ensures.rows) at c.runs.ensures in
     record { so = λ e. sym is ∙ e; same = λ state. ap (λ (b : Bool). state_questions c.args.call b state) is }
