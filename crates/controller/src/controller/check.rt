@@ -19,7 +19,7 @@ impl<B: Bank> Controller<B> {
             (jobs_in (snapshot_of B.Bank self.now)) t ≡ true }
         ensures same { (state : Status) → state_questions call result state
             ≡ state_questions call (runs (plan_contents self.now.plan) self.now.tasks
-                (jobs_in (snapshot_of B.Bank self.now)) t) state }
+            (jobs_in (snapshot_of B.Bank self.now)) t) state }
     {
         match call {
             Call::Ask { .. } | Call::Finish(_) => self.jobs().runs(t),

@@ -54,7 +54,7 @@ impl<B: Bank> Controller<B> {
         ensures run { (h : History)
             → Runs (setup_of B.Bank self.now) (snapshot_of B.Bank self.now) h
             → IsNearestEnd (plan_contents self.now.plan) (after (setup_of B.Bank self.now) h).tasks
-                result }
+            result }
     {
         self.nearest()
     }
