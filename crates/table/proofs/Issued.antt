@@ -2,9 +2,9 @@
 use Rattle.std.proofs.Common.{◌≡◌, ℕ, zero, suc, ◌<◌, ◌≤◌, false, List, [], ◌∷◌, get_or, replicate, set, refl, sym, ap, ◌∙◌, ⊎_elim}
 use Rattle.std.proofs.lemmas.Bool.{cases_lt, false≢true}
 use Rattle.bank.specs.declared.request.Request.{Request}
+use Rattle.plan.specs.Contents.{Contents}
 use Rattle.rules.specs.Moves.{let_in, let_in_state, is_held, ticked_state, ticked_task}
 use Rattle.bank.specs.Lists.{request_of}
-use Rattle.rules.specs.Jobs.{Setup}
 use Rattle.rules.specs.Questions.{late_in}
 use Rattle.rules.specs.States.{idle_task}
 use Rattle.rules.specs.declared.task.State.{State}
@@ -63,9 +63,6 @@ let_in_rests r xs q k none = go k.state none
     go (Waiting w) e = absurd (false≢true (sym e))
     go (Holding w) e = refl
 
-pub not_late : (a : Setup) (q used : ℕ) (st : State) → has_issued st ≡ false → late_in a q used st ≡ false
-not_late a q used Idle e = refl
-not_late a q used Going e = refl
-not_late a q used (HeldBack w) e = refl
-not_late a q used (Waiting w) e = refl
-not_late a q used (Holding w) e = absurd (false≢true (sym e))
+pub not_late : (p : Contents) (q used : ℕ) (st : State) → has_issued st ≡ false → late_in p q used st ≡ false
+not_late p q used (Holding w) e = absurd (false≢true (sym e))
+not_late p q used _ e = refl

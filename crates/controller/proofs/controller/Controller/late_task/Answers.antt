@@ -21,7 +21,7 @@ returns-clause-late g c =
     let s = snapshot_of g.B.Bank self in
     sym (lowest_nothing (late a s) self.tasks (λ k lt.
     ⊎_elim (c.loop-t.invariant.on_time k)
-    (λ (past : c.loop-t.t ≤ k). ap (λ (x : Task). late_in a k x.used x.state) (task_here self.tasks self.table.records.rows k lt) ∙ not_late a k _ _ (none_at c.issued_end.result self.table.records.rows k c.issued_end.ensures.none (omega arith)))
+    (λ (past : c.loop-t.t ≤ k). ap (λ (x : Task). late_in a.plan k x.used x.state) (task_here self.tasks self.table.records.rows k lt) ∙ not_late a.plan k _ _ (none_at c.issued_end.result self.table.records.rows k c.issued_end.ensures.none (omega arith)))
     (cases_lt k c.loop-t.t)))
 
 pub returns-clause-ticks : goal.returns-clause-ticks
