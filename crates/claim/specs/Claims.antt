@@ -20,7 +20,7 @@ abbrev pub gave_of : Result (Result ℕ Refusal) (Claim × Refusal) → Result �
 gave_of (Ok x) = x
 gave_of (Err back) = Err back.1
 
--- the same claim is handed back with 9 where its task is pending, and only there
+-- the same claim is handed back with 9 where its task waits or is held back, and only there
 abbrev pub HandedBack : Claim → Bool → Result (Result ℕ Refusal) (Claim × Refusal) → Type 0
-HandedBack claim pending (Ok x) = pending ≡ false
-HandedBack claim pending (Err back) = (pending ≡ true) × (back.0 ≡ claim) × (number back.1 ≡ 9)
+HandedBack claim suspended (Ok x) = suspended ≡ false
+HandedBack claim suspended (Err back) = (suspended ≡ true) × (back.0 ≡ claim) × (number back.1 ≡ 9)

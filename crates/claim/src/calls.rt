@@ -3,10 +3,10 @@ ghost use Rattle.claim.specs.Claims.{asked_of, ClaimFor, gave_of, HandedBack};
 ghost use Rattle.controller.specs.Banks.{BankChanges};
 ghost use Rattle.controller.specs.Of.{setup_of, snapshot_of, Unchanged};
 ghost use Rattle.rules.specs.Answers.{asked, gave};
-ghost use Rattle.rules.specs.Histories.{History, pending};
+ghost use Rattle.rules.specs.Histories.{History, is_suspended_after};
 ghost use Rattle.rules.specs.Moves.{Does};
 ghost use Rattle.rules.specs.Runs.{Follows, Runs};
-ghost use Rattle.rules.specs.States.{is_pending};
+ghost use Rattle.rules.specs.States.{is_suspended};
 
 use crate::claim::Claim;
 use bank::meaning::Bank;
@@ -45,7 +45,7 @@ fn give_back<B: Bank>(
     ensures bank { BankChanges B.Bank (snapshot_of B.Bank controller.old) (gave claim.task (gave_of result)) controller.old.bank controller.new.bank }
     ensures keeps { Unchanged (gave_of result) controller.old controller.new }
     ensures claim { HandedBack claim
-        (is_pending ((snapshot_of B.Bank controller.old).tasks claim.task).state) result }
+        (is_suspended ((snapshot_of B.Bank controller.old).tasks claim.task).state) result }
 {
     let task = claim.task();
     if controller.is_pending(task) {
@@ -68,10 +68,10 @@ pub fn give<B: Bank>(
     ensures bank { BankChanges B.Bank (snapshot_of B.Bank controller.old) (gave claim.task (gave_of result)) controller.old.bank controller.new.bank }
     ensures keeps { Unchanged (gave_of result) controller.old controller.new }
     ensures claim { HandedBack claim
-        (is_pending ((snapshot_of B.Bank controller.old).tasks claim.task).state) result }
+        (is_suspended ((snapshot_of B.Bank controller.old).tasks claim.task).state) result }
     ensures run { (h : History)
         → Runs (setup_of B.Bank controller.old) (snapshot_of B.Bank controller.old) h
-        → HandedBack claim (pending claim.task h) result }
+        → HandedBack claim (is_suspended_after claim.task h) result }
 {
     give_back(controller, claim)
 }

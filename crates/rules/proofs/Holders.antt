@@ -3,13 +3,13 @@ use Rattle.std.proofs.Common.{◌≡◌, ℕ, ◌+◌, ◌-◌, ◌<◌, ◌≤�
 use Rattle.std.proofs.lemmas.Bool.{le-leb, leb-true, false≢true, both_ways, cases_Bool, cases_lt}
 use Rattle.plan.specs.Contents.{Contents, length_at}
 use Rattle.rules.specs.Answers.{ticked}
-use Rattle.rules.specs.Histories.{History, lists, job, wanted, issued, waiting, pending, used, state, state_of, entry_of, after}
+use Rattle.rules.specs.Histories.{History, lists, job, wanted, issued, waiting, is_suspended_after, used, state, state_of, entry_of, after}
 use Rattle.rules.specs.Holders.{HasLeft, NamesLate, TickNames, IsNearestEnd, ticks_left, task_and_left, nearest_of}
 use Rattle.rules.specs.Jobs.{Setup, Snapshot, least_below}
 use Rattle.rules.specs.Moves.{is_queued}
 use Rattle.rules.specs.Promises.{LateNamed}
 use Rattle.rules.specs.Questions.{length_for, late, late_in, late_task}
-use Rattle.rules.specs.States.{is_holding, is_pending, wanted_of}
+use Rattle.rules.specs.States.{is_holding, is_suspended, wanted_of}
 use Rattle.rules.specs.declared.refusal.Refusal.{Refusal}
 use Rattle.rules.specs.declared.task.State.{State}
 use Rattle.rules.specs.declared.task.State.TheVariants.{Idle, Going, HeldBack, Waiting, Holding}
@@ -123,10 +123,10 @@ tick_names a h (Ok n) e = e
 tick_names a h (Err why) e = e
 
 -- a task waits or is held back, by its record and by its words
-pub pending_words : (a : Setup) (n : ℕ) (h : History) (t : ℕ) → TaskKept a n (lists h) t (words_of a h t) → is_pending (state t h) ≡ pending t h
-pending_words a n h t k = go (job t h) (wanted t h) (issued t h) (held_in t (words_of a h t) (lists h)) (waiting t h) k.no_job k.no_request (λ e. held_or_waits a n (lists h) t (words_of a h t) k e) (λ e. ap (λ (b : Bool). b && is_queued (entry_of t (wanted t h) (lists h))) e)
+pub suspended_words : (a : Setup) (n : ℕ) (h : History) (t : ℕ) → TaskKept a n (lists h) t (words_of a h t) → is_suspended (state t h) ≡ is_suspended_after t h
+suspended_words a n h t k = go (job t h) (wanted t h) (issued t h) (held_in t (words_of a h t) (lists h)) (waiting t h) k.no_job k.no_request (λ e. held_or_waits a n (lists h) t (words_of a h t) k e) (λ e. ap (λ (b : Bool). b && is_queued (entry_of t (wanted t h) (lists h))) e)
   where
-    go : (j : Option ℕ) (o : Option Wanted) (b x y : Bool) → (j ≡ None → o ≡ None) → (o ≡ None → b ≡ false) → (b ≡ true → x ≡ not y) → (b ≡ false → y ≡ false) → is_pending (state_of j o b x) ≡ (y || (is_some o && not b))
+    go : (j : Option ℕ) (o : Option Wanted) (b x y : Bool) → (j ≡ None → o ≡ None) → (o ≡ None → b ≡ false) → (b ≡ true → x ≡ not y) → (b ≡ false → y ≡ false) → is_suspended (state_of j o b x) ≡ (y || (is_some o && not b))
     go None o b x y f g s z = rw (f refl, z (g (f refl))) refl
     go (Some m) None b x y f g s z = rw (z (g refl)) refl
     go (Some m) (Some w) false x y f g s z = rw (z refl) refl

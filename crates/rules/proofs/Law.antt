@@ -7,19 +7,19 @@ use Rattle.bank.specs.Lists.{request_of}
 use Rattle.bank.specs.Meaning.{Lists}
 use Rattle.plan.specs.Contents.{length_at}
 use Rattle.rules.specs.Answers.{Answered}
-use Rattle.rules.specs.Histories.{History, made, called, lists, releases, job, wanted, issued, used, holding, pending, state_of, jobs_after, after}
+use Rattle.rules.specs.Histories.{History, made, called, lists, releases, job, wanted, issued, used, holding, is_suspended_after, state_of, jobs_after, after}
 use Rattle.rules.specs.Jobs.{Setup, Snapshot, runs}
 use Rattle.rules.specs.Moves.{Does}
 use Rattle.rules.specs.Promises.{Kept, InMode, AtMost, WithinLength, Lawful}
 use Rattle.rules.specs.Runs.{SetUp, Begins, SoundLists, Runs, starts, goes, LawfulRun, Follows, Starts}
-use Rattle.rules.specs.States.{is_ready, is_pending}
+use Rattle.rules.specs.States.{is_ready, is_suspended}
 use Rattle.rules.specs.declared.event.Acceptance.TheVariants.{Release, Ask, Give, Finish, Tick}
 use Rattle.rules.specs.declared.event.Event.{Event}
 use Rattle.rules.specs.declared.event.Event.TheVariants.{Accepted, Refused}
 use Rattle.rules.specs.declared.task.Wanted.{Wanted}
 use Rattle.rules.proofs.Ends.{held_back_lem}
 use Rattle.rules.proofs.Gives.{entries}
-use Rattle.rules.proofs.Holders.{pending_words}
+use Rattle.rules.proofs.Holders.{suspended_words}
 use Rattle.rules.proofs.Lift.{Setting, InvOf, SoundOf, Stepped, released_stepped}
 use Rattle.rules.proofs.LiftAsk.{asked_stepped}
 use Rattle.rules.proofs.LiftFinish.{finished_stepped}
@@ -196,5 +196,5 @@ begins a s b sound = lawful_run (starts b sound)
 -- In a run, by the words of its history.
 
 -- a task waits or is held back
-pub pending_lem : {a : Setup} {s : Snapshot} {h : History} → Runs a s h → (t : ℕ) → is_pending (s.tasks t).state ≡ pending t h
-pending_lem {a} {s} {h} run t = let end = run_end run in ap (λ (z : Snapshot). is_pending (z.tasks t).state) end.same ∙ pending_words a (releases h) h t (end.inv.tasks t)
+pub suspended_lem : {a : Setup} {s : Snapshot} {h : History} → Runs a s h → (t : ℕ) → is_suspended (s.tasks t).state ≡ is_suspended_after t h
+suspended_lem {a} {s} {h} run t = let end = run_end run in ap (λ (z : Snapshot). is_suspended (z.tasks t).state) end.same ∙ suspended_words a (releases h) h t (end.inv.tasks t)

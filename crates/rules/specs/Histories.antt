@@ -105,8 +105,8 @@ abbrev pub held_back : ℕ → History → Bool
 held_back t h = is_some (wanted t h) && not (issued t h)
 
 -- t has a request that does not hold yet
-abbrev pub pending : ℕ → History → Bool
-pending t h = waiting t h || held_back t h
+abbrev pub is_suspended_after : ℕ → History → Bool
+is_suspended_after t h = waiting t h || held_back t h
 
 -- A task with no job is idle, and one whose job has no request is going; else its request decides.
 abbrev pub state_of : Option ℕ → Option Wanted → Bool → Bool → State

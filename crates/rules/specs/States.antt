@@ -17,10 +17,10 @@ is_held_back (HeldBack w) = true
 is_held_back _ = false
 
 -- it waits or is held back
-abbrev pub is_pending : State → Bool
-is_pending (HeldBack w) = true
-is_pending (Waiting w) = true
-is_pending _ = false
+abbrev pub is_suspended : State → Bool
+is_suspended (HeldBack w) = true
+is_suspended (Waiting w) = true
+is_suspended _ = false
 
 abbrev pub is_holding : State → Bool
 is_holding (Holding w) = true

@@ -2,10 +2,10 @@ ghost use Rattle.std.specs.Prelude.{◌≡◌};
 ghost use Rattle.controller.specs.Limits.{TellsLimit, TellsTurns};
 ghost use Rattle.controller.specs.Of.{setup_of, snapshot_of};
 ghost use Rattle.plan.specs.Of.{plan_contents};
-ghost use Rattle.rules.specs.Histories.{History, after, pending};
+ghost use Rattle.rules.specs.Histories.{History, after, is_suspended_after};
 ghost use Rattle.rules.specs.Holders.{IsNearestEnd, nearest_end};
 ghost use Rattle.rules.specs.Runs.{Runs};
-ghost use Rattle.rules.specs.States.{is_pending};
+ghost use Rattle.rules.specs.States.{is_suspended};
 
 use crate::controller::Controller;
 use bank::limit::ticks_of_turns;
@@ -61,7 +61,7 @@ impl<B: Bank> Controller<B> {
 
     // Whether a task waits or is held back, by its record.
     fn has_pending(&self, task: u32) -> bool
-        ensures { result ≡ is_pending ((snapshot_of B.Bank self.now).tasks task).state }
+        ensures { result ≡ is_suspended ((snapshot_of B.Bank self.now).tasks task).state }
     {
         let t = task as usize;
         t < self.tasks
@@ -74,10 +74,10 @@ impl<B: Bank> Controller<B> {
     /// Whether a task waits or is held back: it has asked, and can neither work on nor give. A
     /// task that does not exist is not.
     pub fn is_pending(&self, task: u32) -> bool
-        ensures value { result ≡ is_pending ((snapshot_of B.Bank self.now).tasks task).state }
+        ensures value { result ≡ is_suspended ((snapshot_of B.Bank self.now).tasks task).state }
         ensures run { (h : History)
             → Runs (setup_of B.Bank self.now) (snapshot_of B.Bank self.now) h
-            → result ≡ pending task h }
+            → result ≡ is_suspended_after task h }
     {
         self.has_pending(task)
     }

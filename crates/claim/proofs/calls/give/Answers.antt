@@ -1,5 +1,5 @@
 use Rattle.std.proofs.Common.{Bool, subst}
-use Rattle.rules.proofs.Law.{pending_lem}
+use Rattle.rules.proofs.Law.{suspended_lem}
 use Rattle.controller.proofs.Running.{follows_after}
 use Rattle.claim.specs.Claims.{HandedBack}
 use Rattle.claim.proofs.calls.give.Goals as goal
@@ -8,4 +8,4 @@ pub returns-clause-follows : goal.returns-clause-follows
 returns-clause-follows g c = follows_after g.B.Bank c.args.controller.now c.give_back.new.controller _ g.met.B.Bank.sound c.give_back.ensures.setup c.give_back.ensures.does
 
 pub returns-clause-run : goal.returns-clause-run
-returns-clause-run g c h run = subst (λ (b : Bool). HandedBack c.args.claim b c.give_back.result) (pending_lem run c.args.claim.task) c.give_back.ensures.claim
+returns-clause-run g c h run = subst (λ (b : Bool). HandedBack c.args.claim b c.give_back.result) (suspended_lem run c.args.claim.task) c.give_back.ensures.claim
