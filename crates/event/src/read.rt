@@ -23,6 +23,7 @@ fn letter_mode(letter: u8) -> Option<Mode>
 
 // The call that a letter and fields are.
 #[tactic(auto, using(std::proofs::lemmas::Bool::Decides::nat_tests))]
+#[inline(always)]
 fn form(letter: u8, fields: &[Field]) -> Option<Call>
     ensures { result ≡ event_of_fields (letter, fields.now) }
 {
@@ -51,6 +52,7 @@ fn form(letter: u8, fields: &[Field]) -> Option<Call>
 }
 
 // The call that a line is, if it has one of the five forms.
+#[inline(always)]
 fn parse(line: &[u8]) -> Option<Call>
     ensures { result ≡ read_event line.now }
 {
@@ -61,6 +63,7 @@ fn parse(line: &[u8]) -> Option<Call>
 /// The call that a line with its newline is. A line that has none of the five forms is refused by
 /// 21.
 #[tactic(auto, using(crate::proofs::Lines::is_line_of, crate::proofs::Lines::few_bytes))]
+#[inline(always)]
 pub fn read_call(line: &[u8]) -> Result<Call, Refusal>
     ensures reads { ReadsEvent line.now result }
     ensures image { IsLineOf line.now (result_ok result) }

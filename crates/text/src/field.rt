@@ -23,6 +23,7 @@ impl Default for Field {
 pub const FIELDS: usize = 4;
 
 // A comma and the field behind it, and the rest of the line.
+#[inline(always)]
 fn read_field(s: &[u8]) -> Option<(Field, &[u8])>
     ensures { read_field s.now ≡ option_map (λ p. (p.0, p.1.now)) result }
 {
@@ -37,6 +38,7 @@ fn read_field(s: &[u8]) -> Option<(Field, &[u8])>
 }
 
 // Whether a newline is all that is left.
+#[inline(always)]
 fn is_newline(s: &[u8]) -> bool
     ensures { result ≡ is_newline s.now }
 {
@@ -45,6 +47,7 @@ fn is_newline(s: &[u8]) -> bool
 
 /// The letter and the fields of a line, its newline included.
 #[tactic(auto, using(crate::proofs::Fields::found_none, crate::proofs::Images::has_fields))]
+#[inline(always)]
 pub fn read_fields(line: &[u8]) -> Option<(u8, ArrayVec<Field, FIELDS>)>
     ensures read { fields_of line.now ≡ option_map (λ p. (p.0, p.1.items)) result }
     ensures image { HasFields line.now (fields_of line.now) }
