@@ -4,7 +4,8 @@ use Rattle.bank.specs.Questions.{Told}
 use Rattle.bank.specs.declared.request.Mode.TheVariants.{Write, Read}
 use Rattle.plan.specs.Contents.{Contents}
 use Rattle.plan_text.specs.Texts.{read_text}
-use Rattle.readers_writers.specs.ReadersWriters.{told_of as writers_told, writers_ghosts, MadeFrom as WritersOf}
+use Rattle.readers_writers.specs.ReadersWriters.{told_of as writers_told, writers_ghosts}
+use Rattle.readers_writers.specs.ReadersWriters.{MadeFrom as WritersOf}
 use Rattle.readers_writers.specs.declared.lines.ReadersWriters.{ReadersWriters}
 use Rattle.slots.specs.Slots.{told_of as slots_told, slots_ghosts, MadeFrom as SlotsOf}
 use Rattle.slots.specs.declared.slots.Slots.{Slots}

@@ -7,12 +7,13 @@ use Rattle.bank.specs.declared.request.Request.{Request}
 use Rattle.bank.specs.Limits.{ticks_of_turns}
 use Rattle.plan.specs.Contents.{Contents, longest_at}
 use Rattle.rules.specs.Answers.{released, asked, gave, finished, ticked, Answered}
-use Rattle.rules.specs.Histories.{History, made, called, lists, job, wanted, issued, holding, waiting, state}
-use Rattle.rules.specs.Histories.{jobs_after, used, waited, job_waited, blocked_ticks_of, after}
+use Rattle.rules.specs.Histories.{History, made, called, lists, job, wanted, issued, holding}
+use Rattle.rules.specs.Histories.{waiting, state, used, waited, job_waited, blocked_ticks_of}
+use Rattle.rules.specs.Histories.{jobs_after, after}
 use Rattle.rules.specs.Jobs.{Setup, runs, is_among_first, blocked, next_issued}
 use Rattle.rules.specs.Questions.{late_task, questions}
 use Rattle.rules.specs.declared.answer.Asked.TheVariants.{Hold, Wait, Back}
-use Rattle.rules.specs.declared.call.Call.{Call as Asking}
+use Rattle.rules.specs.declared.call.Call.{Call}
 use Rattle.rules.specs.declared.event.Event.{Event}
 use Rattle.rules.specs.declared.refusal.Refusal.TheVariants.{NotRunning, StillHolding, Late}
 use Rattle.rules.specs.declared.task.State.{State}
@@ -131,15 +132,15 @@ holds n ticks used =
     }
 
 -- a call with its answer, the bank's list after it, and what is then said of tasks 0, 1 and 2
-pub record Call : Type 0 where
+pub record Row : Type 0 where
   pub event : Event
   pub list : List Request
   pub zero : Words
   pub one : Words
   pub two : Words
 
-abbrev pub call : Event → List Request → Words → Words → Words → Call
-call e xs zero one two = record { event = e; list = xs; zero = zero; one = one; two = two }
+abbrev pub row : Event → List Request → Words → Words → Words → Row
+row e xs zero one two = record { event = e; list = xs; zero = zero; one = one; two = two }
 
 abbrev pub none : List Request
 none = []
@@ -160,36 +161,36 @@ ended_for_two =
 abbrev pub ended : ℕ → ℕ → Event
 ended t ticks = finished t (Ok (record { blocked = ticks; issued = None }))
 
-abbrev pub run : List Call
+abbrev pub run : List Row
 run =
-    call (released 0 (Ok 0)) none (going 0 0) idle idle
-    ∷ call (released 1 (Ok 1)) none (going 0 0) (going 1 0) idle
-    ∷ call (released 2 (Ok 2)) none (going 0 0) (going 1 0) (going 2 0)
-    ∷ call (asked 0 0 Write (Ok Hold)) (alone 0) (holds 0 0 0) (going 1 0) (going 2 0)
-    ∷ call (asked 2 0 Write (Err NotRunning)) (alone 0) (holds 0 0 0) (going 1 0) (going 2 0)
-    ∷ call (asked 1 0 Write (Ok Wait)) (before 0 1) (holds 0 0 0) (waits 1 0) (going 2 0)
-    ∷ call (asked 2 0 Write (Ok Back)) (before 0 1) (holds 0 0 0) (waits 1 0) (held_back 2 0)
-    ∷ call (ticked (Ok 1)) (before 0 1) (holds 0 0 1) (waits 1 1) (held_back 2 0)
-    ∷ call (ticked (Ok 2)) (before 0 1) (holds 0 0 2) (waits 1 2) (held_back 2 0)
-    ∷ call (ticked (Err (Late 0))) (before 0 1) (holds 0 0 2) (waits 1 2) (held_back 2 0)
-    ∷ call (gave 0 (Ok 2)) (alone 1) (going 0 0) (holds 1 2 0) (held_back 2 0)
-    ∷ call ended_for_two (before 1 2) idle (holds 1 2 0) (waits 2 0)
-    ∷ call (ticked (Ok 3)) (before 1 2) idle (holds 1 2 1) (waits 2 1)
-    ∷ call (gave 1 (Ok 1)) (alone 2) idle (going 1 2) (holds 2 1 0)
-    ∷ call (ended 1 2) (alone 2) idle idle (holds 2 1 0)
-    ∷ call (finished 2 (Err StillHolding)) (alone 2) idle idle (holds 2 1 0)
-    ∷ call (gave 2 (Ok 0)) none idle idle (going 2 1)
-    ∷ call (ended 2 1) none idle idle idle
+    row (released 0 (Ok 0)) none (going 0 0) idle idle
+    ∷ row (released 1 (Ok 1)) none (going 0 0) (going 1 0) idle
+    ∷ row (released 2 (Ok 2)) none (going 0 0) (going 1 0) (going 2 0)
+    ∷ row (asked 0 0 Write (Ok Hold)) (alone 0) (holds 0 0 0) (going 1 0) (going 2 0)
+    ∷ row (asked 2 0 Write (Err NotRunning)) (alone 0) (holds 0 0 0) (going 1 0) (going 2 0)
+    ∷ row (asked 1 0 Write (Ok Wait)) (before 0 1) (holds 0 0 0) (waits 1 0) (going 2 0)
+    ∷ row (asked 2 0 Write (Ok Back)) (before 0 1) (holds 0 0 0) (waits 1 0) (held_back 2 0)
+    ∷ row (ticked (Ok 1)) (before 0 1) (holds 0 0 1) (waits 1 1) (held_back 2 0)
+    ∷ row (ticked (Ok 2)) (before 0 1) (holds 0 0 2) (waits 1 2) (held_back 2 0)
+    ∷ row (ticked (Err (Late 0))) (before 0 1) (holds 0 0 2) (waits 1 2) (held_back 2 0)
+    ∷ row (gave 0 (Ok 2)) (alone 1) (going 0 0) (holds 1 2 0) (held_back 2 0)
+    ∷ row ended_for_two (before 1 2) idle (holds 1 2 0) (waits 2 0)
+    ∷ row (ticked (Ok 3)) (before 1 2) idle (holds 1 2 1) (waits 2 1)
+    ∷ row (gave 1 (Ok 1)) (alone 2) idle (going 1 2) (holds 2 1 0)
+    ∷ row (ended 1 2) (alone 2) idle idle (holds 2 1 0)
+    ∷ row (finished 2 (Err StillHolding)) (alone 2) idle idle (holds 2 1 0)
+    ∷ row (gave 2 (Ok 0)) none idle idle (going 2 1)
+    ∷ row (ended 2 1) none idle idle idle
     ∷ []
 
 -- a history, and it after further calls
 abbrev pub start : History
 start = made (λ _. none)
 
-abbrev pub then : History → Call → History
+abbrev pub then : History → Row → History
 then h c = called h c.event (λ _. c.list)
 
-abbrev pub history_from : History → List Call → History
+abbrev pub history_from : History → List Row → History
 history_from h [] = h
 history_from h (c ∷ cs) = history_from (then h c) cs
 
@@ -198,7 +199,7 @@ abbrev pub history : ℕ → History
 history n = history_from start (take n run)
 
 -- each call is answered by the rules, and after it the words say of each task what stands beside it
-abbrev pub Said : History → List Call → Type 0
+abbrev pub Said : History → List Row → Type 0
 Said h [] = ⊤
 Said h (c ∷ cs) =
     Answered setup (after setup h) c.event (λ _. c.list)
@@ -222,7 +223,7 @@ abbrev pub CallsHold : Type 0
 CallsHold =
     (late_task setup (after setup (history 9)) ≡ Some 0)
     × (next_issued setup (after setup (history 11)) 0 ≡ Some 2)
-    × (first_no (questions setup (after setup (history 13)) (Asking.Ask 1 0 Write)) ≡ Some 8)
+    × (first_no (questions setup (after setup (history 13)) (Call.Ask 1 0 Write)) ≡ Some 8)
 
 -- the requests of the run, as they are issued and given back
 abbrev pub valve_steps : List Step
