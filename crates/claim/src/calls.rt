@@ -1,12 +1,6 @@
-ghost use Rattle.std.specs.Prelude.{◌≡◌};
-ghost use Rattle.claim.specs.Claims.{asked_of, ClaimFor, gave_of, HandedBack};
-ghost use Rattle.controller.specs.Banks.{BankChanges};
-ghost use Rattle.controller.specs.Of.{setup_of, snapshot_of, Unchanged};
-ghost use Rattle.rules.specs.Answers.{asked, gave};
-ghost use Rattle.rules.specs.Histories.{History, is_suspended_after};
-ghost use Rattle.rules.specs.Moves.{Does};
-ghost use Rattle.rules.specs.Runs.{Follows, Runs};
-ghost use Rattle.rules.specs.States.{is_suspended};
+ghost use Rattle.claim.specs.Claims.{asked_of, AsksWithClaim, GivesWithClaim, FollowsWithClaim};
+ghost use Rattle.controller.specs.Calls.{FollowsRuns};
+ghost use Rattle.rules.specs.Answers.{asked};
 
 use crate::claim::Claim;
 use bank::meaning::Bank;
@@ -23,12 +17,9 @@ pub fn ask<B: Bank>(
     resource: u32,
     mode: Mode,
 ) -> Result<(Asked, Claim), Refusal>
-    ensures setup { setup_of B.Bank controller.new ≡ setup_of B.Bank controller.old }
-    ensures does { Does (setup_of B.Bank controller.old) (snapshot_of B.Bank controller.old) (asked task resource mode (asked_of result)) (snapshot_of B.Bank controller.new) }
-    ensures follows { Follows (setup_of B.Bank controller.old) (snapshot_of B.Bank controller.old) (asked task resource mode (asked_of result)) (snapshot_of B.Bank controller.new) }
-    ensures bank { BankChanges B.Bank (snapshot_of B.Bank controller.old) (asked task resource mode (asked_of result)) controller.old.bank controller.new.bank }
-    ensures keeps { Unchanged result controller.old controller.new }
-    ensures claim { ClaimFor task result }
+    ensures makes { AsksWithClaim B.Bank controller.old task resource mode result controller.new }
+    ensures follows { FollowsRuns B.Bank controller.old (asked task resource mode (asked_of result))
+        controller.new }
 {
     let answer = controller.ask(task, resource, mode)?;
     Ok((answer, Claim::of(task)))
@@ -40,15 +31,10 @@ fn give_back<B: Bank>(
     controller: &mut Controller<B>,
     claim: Claim,
 ) -> Result<Result<u32, Refusal>, (Claim, Refusal)>
-    ensures setup { setup_of B.Bank controller.new ≡ setup_of B.Bank controller.old }
-    ensures does { Does (setup_of B.Bank controller.old) (snapshot_of B.Bank controller.old) (gave claim.task (gave_of result)) (snapshot_of B.Bank controller.new) }
-    ensures bank { BankChanges B.Bank (snapshot_of B.Bank controller.old) (gave claim.task (gave_of result)) controller.old.bank controller.new.bank }
-    ensures keeps { Unchanged (gave_of result) controller.old controller.new }
-    ensures claim { HandedBack claim
-        (is_suspended ((snapshot_of B.Bank controller.old).tasks claim.task).state) result }
+    ensures { GivesWithClaim B.Bank controller.old claim result controller.new }
 {
     let task = claim.task();
-    if controller.is_pending(task) {
+    if controller.is_suspended(task) {
         return Err((claim, Refusal::NotHolding));
     }
     claim.spend();
@@ -62,16 +48,8 @@ pub fn give<B: Bank>(
     controller: &mut Controller<B>,
     claim: Claim,
 ) -> Result<Result<u32, Refusal>, (Claim, Refusal)>
-    ensures setup { setup_of B.Bank controller.new ≡ setup_of B.Bank controller.old }
-    ensures does { Does (setup_of B.Bank controller.old) (snapshot_of B.Bank controller.old) (gave claim.task (gave_of result)) (snapshot_of B.Bank controller.new) }
-    ensures follows { Follows (setup_of B.Bank controller.old) (snapshot_of B.Bank controller.old) (gave claim.task (gave_of result)) (snapshot_of B.Bank controller.new) }
-    ensures bank { BankChanges B.Bank (snapshot_of B.Bank controller.old) (gave claim.task (gave_of result)) controller.old.bank controller.new.bank }
-    ensures keeps { Unchanged (gave_of result) controller.old controller.new }
-    ensures claim { HandedBack claim
-        (is_suspended ((snapshot_of B.Bank controller.old).tasks claim.task).state) result }
-    ensures run { (h : History)
-        → Runs (setup_of B.Bank controller.old) (snapshot_of B.Bank controller.old) h
-        → HandedBack claim (is_suspended_after claim.task h) result }
+    ensures makes { GivesWithClaim B.Bank controller.old claim result controller.new }
+    ensures follows { FollowsWithClaim B.Bank controller.old claim result controller.new }
 {
     give_back(controller, claim)
 }

@@ -1,14 +1,18 @@
 -- The answers of the calls, from what was done to the bank.
-use Rattle.std.proofs.Common.{◌≡◌, ℕ, Bool, cond, [], None, Ok, Err, sym, ap, ◌∙◌}
+use Rattle.std.proofs.Common.{Some, subst, refl, ◌≡◌, ℕ, Bool, cond, [], None, Ok, Err, sym, ap, ◌∙◌}
 use Rattle.bank.specs.Meaning.{Lists}
+use Rattle.bank.specs.Questions.{leave_questions, number as bank_number}
+use Rattle.bank.specs.declared.refusal.Refusal.{Refusal as BankRefusal}
+use Rattle.rules.specs.declared.refusal.Refusal.TheVariants.{Bank}
+use Rattle.rules.specs.declared.task.Wanted.{Wanted}
 use Rattle.bank.specs.declared.request.Mode.{Mode}
 use Rattle.text.specs.Questions.{first_no}
-use Rattle.rules.specs.Answers.{asked, Answered}
+use Rattle.rules.specs.Answers.{asked, gave, Answered}
 use Rattle.rules.specs.Jobs.{Setup, Snapshot, jobs_in, is_among_first}
-use Rattle.rules.specs.Questions.{questions, bank_questions, issue_questions}
+use Rattle.rules.specs.Questions.{wanted_by, questions, bank_questions, issue_questions}
 use Rattle.rules.specs.declared.answer.Asked.{Asked}
 use Rattle.rules.specs.declared.answer.Asked.TheVariants.{Hold, Wait, Back}
-use Rattle.rules.specs.declared.call.Call.TheVariants.{Ask}
+use Rattle.rules.specs.declared.call.Call.TheVariants.{Ask, Give}
 use Rattle.rules.specs.declared.refusal.Refusal.{Refusal}
 use Rattle.controller.specs.Issues.{Asks}
 
@@ -27,4 +31,16 @@ ask_refused a s t r m is_first why new e own done =
           };
       named = done.2;
       same = done.3;
+    }
+
+pub give_refused : (a : Setup) (s : Snapshot) (t : ℕ) (why : BankRefusal) (w : Wanted) (new : Lists) → first_no (questions a s (Give t)) ≡ None → w ≡ wanted_by s t → first_no (leave_questions a.told w.resource t (s.lists w.resource)) ≡ Some (bank_number why) → new ≡ s.lists → Answered a s (gave t (Err (Bank why))) new
+give_refused a s t why w new own wanted refusal same =
+    record {
+      by =
+          record {
+            decided = subst (λ (x : Wanted). first_no (leave_questions a.told x.resource t (s.lists x.resource)) ≡ Some (bank_number why)) wanted refusal;
+            own_first = λ f. own;
+          };
+      named = refl;
+      same = same;
     }

@@ -1,4 +1,5 @@
 pub mod Banks
+pub mod Calls
 pub mod Checks
 pub mod Issues
 pub mod Limits

@@ -66,11 +66,11 @@ starts_same c k j x y =
 step_same : (k j : Controller PlanBanks meaning) → Same k j → (e : Event) (x y : Call) → event_of x ≡ Some e → event_of y ≡ Some e → (p q : Controller PlanBanks meaning) → Step k x p → Step j y q → Same p q × (line_text x ≡ line_text y)
 step_same k j same e x y f g p q a b =
     let does : Does (setup k) (snapshot k) y (snapshot q) = subst (λ v. Does v (snapshot k) y (snapshot q)) (sym same.set_up) (subst (λ s. Does (setup j) s y (snapshot q)) (sym same.stands) b.does) in
-    let banks : BankChanges meaning (snapshot k) y j.bank q.bank = subst (λ s. BankChanges meaning s y j.bank q.bank) (sym same.stands) b.banks in
-    let both = call_same (setup k) (snapshot k) k.bank j.bank p.bank q.bank same.banks (snapshot p).lists (snapshot q).lists e x y f g a.does.answered does.answered a.banks banks in
+    let banks : BankChanges meaning (snapshot k) y j.bank q.bank = subst (λ s. BankChanges meaning s y j.bank q.bank) (sym same.stands) b.bank in
+    let both = call_same (setup k) (snapshot k) k.bank j.bank p.bank q.bank same.banks (snapshot p).lists (snapshot q).lists e x y f g a.does.answered does.answered a.bank banks in
     let lists = banks_exact.lists _ _ both.1 in (
       record {
-        set_up = a.same ∙ (same.set_up ∙ sym b.same);
+        set_up = a.setup ∙ (same.set_up ∙ sym b.setup);
         stands =
             stands_same (snapshot p) (snapshot q)
             (λ n. a.does.tasks n ∙ (ap (λ l. moved_task (snapshot k) x l n) lists ∙ (both.0.moved (snapshot q).lists n ∙ sym (does.tasks n))))

@@ -109,7 +109,7 @@ reads_same a b e (Err why) w = sym (refuses_same a b e) ∙ w
 pub one_call : (k next : Controller PlanBanks meaning) (call : Call) → Follows (setup k) (snapshot k) call (snapshot next) → Step k call next → RunsOn k (call ∷ []) next
 one_call k next call follows step = λ h run. (
   called h call (snapshot next).lists,
-  subst (λ x. LawfulRun x (snapshot next) (called h call (snapshot next).lists)) (sym step.same) (follows h run.runs),
+  subst (λ x. LawfulRun x (snapshot next) (called h call (snapshot next).lists)) (sym step.setup) (follows h run.runs),
   (next, step, (refl, refl)),
 )
 

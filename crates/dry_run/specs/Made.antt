@@ -1,12 +1,11 @@
 -- The controller of a plan, over slots paired with readers and writers.
 use Rattle.std.specs.Prelude.{◌≡◌}
-use Rattle.controller.specs.Banks.{BankChanges}
+use Rattle.controller.specs.Calls.{Makes}
 use Rattle.controller.specs.Of.{setup_of, snapshot_of}
 use Rattle.controller.specs.declared.controller.Controller.{Controller}
 use Rattle.dry_run.specs.Banks.{PlanBanks, BanksOf, meaning}
 use Rattle.plan.specs.Contents.{Contents}
 use Rattle.rules.specs.Jobs.{Setup, Snapshot}
-use Rattle.rules.specs.Moves.{Does}
 use Rattle.rules.specs.declared.event.Event.{Event as Call}
 use Rattle.rules.specs.Runs.{Begins, Fitting, Starts}
 
@@ -24,8 +23,6 @@ pub record MadeFrom (c : Contents) (k : Controller PlanBanks meaning) : Type 0 w
   pub begins : Begins (setup k) (snapshot k)
   pub starts : Starts (setup k) (snapshot k)
 
--- what one call does: its exact effect by the rules, and the change of the banks by their own
-pub record Step (k : Controller PlanBanks meaning) (call : Call) (next : Controller PlanBanks meaning) : Type 0 where
-  pub same : setup next ≡ setup k
-  pub does : Does (setup k) (snapshot k) call (snapshot next)
-  pub banks : BankChanges meaning (snapshot k) call k.bank next.bank
+-- what one call makes of it
+abbrev pub Step : Controller PlanBanks meaning → Call → Controller PlanBanks meaning → Type 0
+Step k call next = Makes meaning k call next

@@ -1,12 +1,10 @@
 ghost use Rattle.std.specs.Prelude.{◌≡◌};
 ghost use Rattle.controller.specs.Checks.{Moves};
 ghost use Rattle.rules.specs.declared.task.State.TheVariants.{HeldBack};
-ghost use Rattle.controller.specs.Banks.{BankChanges};
+ghost use Rattle.controller.specs.Calls.{FollowsRuns, Makes};
 ghost use Rattle.controller.specs.Of.{setup_of, snapshot_of, Unchanged};
 ghost use Rattle.controller.specs.Issues.{Asks, AskChanges};
 ghost use Rattle.rules.specs.Answers.{asked};
-ghost use Rattle.rules.specs.Moves.{Does};
-ghost use Rattle.rules.specs.Runs.{Follows};
 ghost use Rattle.rules.specs.Questions.{questions};
 
 use crate::controller::Controller;
@@ -60,10 +58,7 @@ impl<B: Bank> Controller<B> {
     }
 
     fn do_ask(&mut self, task: u32, resource: u32, mode: Mode) -> Result<Asked, Refusal>
-        ensures setup { setup_of B.Bank self.new ≡ setup_of B.Bank self.old }
-        ensures does { Does (setup_of B.Bank self.old) (snapshot_of B.Bank self.old) (asked task resource mode result) (snapshot_of B.Bank self.new) }
-        ensures bank { BankChanges B.Bank (snapshot_of B.Bank self.old) (asked task resource mode result) self.old.bank self.new.bank }
-        ensures keeps { Unchanged result self.old self.new }
+        ensures { Makes B.Bank self.old (asked task resource mode result) self.new }
     {
         let back = self.check_ask(task, resource, mode)?;
         let t = task as usize;
@@ -79,11 +74,8 @@ impl<B: Bank> Controller<B> {
     /// if the job is among the first of its cluster; else it is held back until a finish brings
     /// the job there. Refused with 1, 2, 3, 4, 7 or 8.
     pub fn ask(&mut self, task: u32, resource: u32, mode: Mode) -> Result<Asked, Refusal>
-        ensures setup { setup_of B.Bank self.new ≡ setup_of B.Bank self.old }
-        ensures does { Does (setup_of B.Bank self.old) (snapshot_of B.Bank self.old) (asked task resource mode result) (snapshot_of B.Bank self.new) }
-        ensures follows { Follows (setup_of B.Bank self.old) (snapshot_of B.Bank self.old) (asked task resource mode result) (snapshot_of B.Bank self.new) }
-        ensures bank { BankChanges B.Bank (snapshot_of B.Bank self.old) (asked task resource mode result) self.old.bank self.new.bank }
-        ensures keeps { Unchanged result self.old self.new }
+        ensures makes { Makes B.Bank self.old (asked task resource mode result) self.new }
+        ensures follows { FollowsRuns B.Bank self.old (asked task resource mode result) self.new }
     {
         self.do_ask(task, resource, mode)
     }

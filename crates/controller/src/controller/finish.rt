@@ -1,10 +1,8 @@
 ghost use Rattle.std.specs.Prelude.{◌≡◌, ◌<◌};
-ghost use Rattle.controller.specs.Banks.{BankChanges};
-ghost use Rattle.controller.specs.Of.{setup_of, snapshot_of, Unchanged};
+ghost use Rattle.controller.specs.Calls.{FollowsRuns, Makes};
+ghost use Rattle.controller.specs.Of.{setup_of, snapshot_of};
 ghost use Rattle.rules.specs.Answers.{finished};
 ghost use Rattle.rules.specs.Jobs.{next_issued};
-ghost use Rattle.rules.specs.Moves.{Does};
-ghost use Rattle.rules.specs.Runs.{Follows};
 
 use crate::controller::Controller;
 use crate::state::{in_state, issued_state, wanted_of};
@@ -24,10 +22,7 @@ impl<B: Bank> Controller<B> {
     }
 
     fn do_finish(&mut self, task: u32) -> Result<Finished, Refusal>
-        ensures setup { setup_of B.Bank self.new ≡ setup_of B.Bank self.old }
-        ensures does { Does (setup_of B.Bank self.old) (snapshot_of B.Bank self.old) (finished task result) (snapshot_of B.Bank self.new) }
-        ensures bank { BankChanges B.Bank (snapshot_of B.Bank self.old) (finished task result) self.old.bank self.new.bank }
-        ensures keeps { Unchanged result self.old self.new }
+        ensures { Makes B.Bank self.old (finished task result) self.new }
     {
         let state = self.check(task, Call::Finish(task))?;
         let t = task as usize;
@@ -61,11 +56,8 @@ impl<B: Bank> Controller<B> {
     /// The running job of a task ends. Answers the ticks on which it was blocked, and the request
     /// that was held back and is issued thereby, if there is one. Refused with 1, 7 or 8.
     pub fn finish(&mut self, task: u32) -> Result<Finished, Refusal>
-        ensures setup { setup_of B.Bank self.new ≡ setup_of B.Bank self.old }
-        ensures does { Does (setup_of B.Bank self.old) (snapshot_of B.Bank self.old) (finished task result) (snapshot_of B.Bank self.new) }
-        ensures follows { Follows (setup_of B.Bank self.old) (snapshot_of B.Bank self.old) (finished task result) (snapshot_of B.Bank self.new) }
-        ensures bank { BankChanges B.Bank (snapshot_of B.Bank self.old) (finished task result) self.old.bank self.new.bank }
-        ensures keeps { Unchanged result self.old self.new }
+        ensures makes { Makes B.Bank self.old (finished task result) self.new }
+        ensures follows { FollowsRuns B.Bank self.old (finished task result) self.new }
     {
         self.do_finish(task)
     }

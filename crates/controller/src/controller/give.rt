@@ -1,11 +1,9 @@
 ghost use Rattle.std.specs.Option.{unwrap_or};
 ghost use Rattle.std.specs.Prelude.{◌≡◌, ◌<◌, ◌≤◌};
-ghost use Rattle.controller.specs.Banks.{BankChanges};
-ghost use Rattle.controller.specs.Of.{setup_of, snapshot_of, Unchanged};
+ghost use Rattle.controller.specs.Calls.{FollowsRuns, Makes};
 ghost use Rattle.controller.specs.Issues.{LetsIn};
 ghost use Rattle.rules.specs.Answers.{gave};
-ghost use Rattle.rules.specs.Moves.{Does, let_in};
-ghost use Rattle.rules.specs.Runs.{Follows};
+ghost use Rattle.rules.specs.Moves.{let_in};
 
 use crate::controller::Controller;
 use crate::state::{in_state, wanted_of};
@@ -48,10 +46,7 @@ fn let_in_all<B: Bank>(bank: &B, resource: u32, tasks: usize, table: &mut Tasks)
 
 impl<B: Bank> Controller<B> {
     fn do_give(&mut self, task: u32) -> Result<u32, Refusal>
-        ensures setup { setup_of B.Bank self.new ≡ setup_of B.Bank self.old }
-        ensures does { Does (setup_of B.Bank self.old) (snapshot_of B.Bank self.old) (gave task result) (snapshot_of B.Bank self.new) }
-        ensures bank { BankChanges B.Bank (snapshot_of B.Bank self.old) (gave task result) self.old.bank self.new.bank }
-        ensures keeps { Unchanged result self.old self.new }
+        ensures { Makes B.Bank self.old (gave task result) self.new }
     {
         let state = self.check(task, Call::Give(task))?;
         let t = task as usize;
@@ -66,11 +61,8 @@ impl<B: Bank> Controller<B> {
     /// The task gives back what it holds, and is answered the ticks for which it held. Each task
     /// that the bank then lets hold has held for 0 ticks. Refused with 1 or 9.
     pub fn give(&mut self, task: u32) -> Result<u32, Refusal>
-        ensures setup { setup_of B.Bank self.new ≡ setup_of B.Bank self.old }
-        ensures does { Does (setup_of B.Bank self.old) (snapshot_of B.Bank self.old) (gave task result) (snapshot_of B.Bank self.new) }
-        ensures follows { Follows (setup_of B.Bank self.old) (snapshot_of B.Bank self.old) (gave task result) (snapshot_of B.Bank self.new) }
-        ensures bank { BankChanges B.Bank (snapshot_of B.Bank self.old) (gave task result) self.old.bank self.new.bank }
-        ensures keeps { Unchanged result self.old self.new }
+        ensures makes { Makes B.Bank self.old (gave task result) self.new }
+        ensures follows { FollowsRuns B.Bank self.old (gave task result) self.new }
     {
         self.do_give(task)
     }

@@ -1,9 +1,6 @@
 ghost use Rattle.std.specs.Prelude.{◌≡◌};
-ghost use Rattle.controller.specs.Banks.{BankChanges};
-ghost use Rattle.controller.specs.Of.{setup_of, snapshot_of, Unchanged};
+ghost use Rattle.controller.specs.Calls.{FollowsRuns, Makes};
 ghost use Rattle.rules.specs.Answers.{released};
-ghost use Rattle.rules.specs.Moves.{Does};
-ghost use Rattle.rules.specs.Runs.{Follows};
 
 use crate::controller::Controller;
 use bank::meaning::Bank;
@@ -13,10 +10,7 @@ use rules::task::Task;
 
 impl<B: Bank> Controller<B> {
     fn do_release(&mut self, task: u32) -> Result<u32, Refusal>
-        ensures setup { setup_of B.Bank self.new ≡ setup_of B.Bank self.old }
-        ensures does { Does (setup_of B.Bank self.old) (snapshot_of B.Bank self.old) (released task result) (snapshot_of B.Bank self.new) }
-        ensures bank { BankChanges B.Bank (snapshot_of B.Bank self.old) (released task result) self.old.bank self.new.bank }
-        ensures keeps { Unchanged result self.old self.new }
+        ensures { Makes B.Bank self.old (released task result) self.new }
     {
         let state = self.check(task, Call::Release(task))?;
         let number = self.releases;
@@ -38,11 +32,8 @@ impl<B: Bank> Controller<B> {
     /// Begins a job of an idle task, and answers its release number: how many releases were
     /// accepted before. Refused with 1, 5 or 6.
     pub fn release(&mut self, task: u32) -> Result<u32, Refusal>
-        ensures setup { setup_of B.Bank self.new ≡ setup_of B.Bank self.old }
-        ensures does { Does (setup_of B.Bank self.old) (snapshot_of B.Bank self.old) (released task result) (snapshot_of B.Bank self.new) }
-        ensures follows { Follows (setup_of B.Bank self.old) (snapshot_of B.Bank self.old) (released task result) (snapshot_of B.Bank self.new) }
-        ensures bank { BankChanges B.Bank (snapshot_of B.Bank self.old) (released task result) self.old.bank self.new.bank }
-        ensures keeps { Unchanged result self.old self.new }
+        ensures makes { Makes B.Bank self.old (released task result) self.new }
+        ensures follows { FollowsRuns B.Bank self.old (released task result) self.new }
     {
         self.do_release(task)
     }

@@ -60,7 +60,7 @@ impl<B: Bank> Controller<B> {
     }
 
     // Whether a task waits or is held back, by its record.
-    fn has_pending(&self, task: u32) -> bool
+    fn suspends(&self, task: u32) -> bool
         ensures { result ≡ is_suspended ((snapshot_of B.Bank self.now).tasks task).state }
     {
         let t = task as usize;
@@ -73,12 +73,12 @@ impl<B: Bank> Controller<B> {
 
     /// Whether a task waits or is held back: it has asked, and can neither work on nor give. A
     /// task that does not exist is not.
-    pub fn is_pending(&self, task: u32) -> bool
+    pub fn is_suspended(&self, task: u32) -> bool
         ensures value { result ≡ is_suspended ((snapshot_of B.Bank self.now).tasks task).state }
         ensures run { (h : History)
             → Runs (setup_of B.Bank self.now) (snapshot_of B.Bank self.now) h
             → result ≡ is_suspended_after task h }
     {
-        self.has_pending(task)
+        self.suspends(task)
     }
 }

@@ -1,13 +1,9 @@
 ghost use Rattle.std.specs.Prelude.{◌≡◌, ℕ, ◌<◌, ◌≤◌, false, None, slice_index_or};
-ghost use Rattle.controller.specs.Banks.{BankChanges};
-ghost use Rattle.controller.specs.Of.{setup_of, snapshot_of, Unchanged};
+ghost use Rattle.controller.specs.Calls.{FollowsRuns, Makes};
+ghost use Rattle.controller.specs.Of.{setup_of, snapshot_of};
 ghost use Rattle.controller.specs.Ticks.{CanTick, TicksAll};
 ghost use Rattle.rules.specs.Answers.{ticked};
-ghost use Rattle.rules.specs.Histories.{History, after};
-ghost use Rattle.rules.specs.Holders.{TickNames};
-ghost use Rattle.rules.specs.Moves.{Does};
 ghost use Rattle.rules.specs.Questions.{late, late_task};
-ghost use Rattle.rules.specs.Runs.{Follows, Runs};
 ghost use Rattle.rules.specs.States.{idle_task};
 
 use crate::controller::Controller;
@@ -61,10 +57,7 @@ impl<B: Bank> Controller<B> {
     }
 
     fn do_tick(&mut self) -> Result<u32, Refusal>
-        ensures setup { setup_of B.Bank self.new ≡ setup_of B.Bank self.old }
-        ensures does { Does (setup_of B.Bank self.old) (snapshot_of B.Bank self.old) (ticked result) (snapshot_of B.Bank self.new) }
-        ensures bank { BankChanges B.Bank (snapshot_of B.Bank self.old) (ticked result) self.old.bank self.new.bank }
-        ensures keeps { Unchanged result self.old self.new }
+        ensures { Makes B.Bank self.old (ticked result) self.new }
     {
         if let Some(task) = self.late_task() {
             return Err(Refusal::Late(task));
@@ -80,14 +73,8 @@ impl<B: Bank> Controller<B> {
     /// One tick, a millisecond, passes: answers the clock, in ticks since the controller was made.
     /// Refused with 10, and the lowest task that has held for all of its length, or with 11.
     pub fn tick(&mut self) -> Result<u32, Refusal>
-        ensures setup { setup_of B.Bank self.new ≡ setup_of B.Bank self.old }
-        ensures does { Does (setup_of B.Bank self.old) (snapshot_of B.Bank self.old) (ticked result) (snapshot_of B.Bank self.new) }
-        ensures follows { Follows (setup_of B.Bank self.old) (snapshot_of B.Bank self.old) (ticked result) (snapshot_of B.Bank self.new) }
-        ensures late { (h : History)
-            → Runs (setup_of B.Bank self.old) (snapshot_of B.Bank self.old) h
-            → TickNames (setup_of B.Bank self.old) (after (setup_of B.Bank self.old) h) result }
-        ensures bank { BankChanges B.Bank (snapshot_of B.Bank self.old) (ticked result) self.old.bank self.new.bank }
-        ensures keeps { Unchanged result self.old self.new }
+        ensures makes { Makes B.Bank self.old (ticked result) self.new }
+        ensures follows { FollowsRuns B.Bank self.old (ticked result) self.new }
     {
         self.do_tick()
     }

@@ -5,7 +5,9 @@ use Rattle.claim.specs.Claims.{HandedBack}
 use Rattle.claim.proofs.calls.give.Goals as goal
 
 pub returns-clause-follows : goal.returns-clause-follows
-returns-clause-follows g c = follows_after g.B.Bank c.args.controller.now c.give_back.new.controller _ g.met.B.Bank.sound c.give_back.ensures.setup c.give_back.ensures.does
-
-pub returns-clause-run : goal.returns-clause-run
-returns-clause-run g c h run = subst (λ (b : Bool). HandedBack c.args.claim b c.give_back.result) (suspended_lem run c.args.claim.task) c.give_back.ensures.claim
+returns-clause-follows g c =
+    let e = c.give_back.ensures in
+    record {
+      follows = follows_after g.B.Bank c.args.controller.now c.give_back.new.controller _ g.met.B.Bank.sound e.makes;
+      back = λ h run. subst (λ (b : Bool). HandedBack c.args.claim b c.give_back.result) (suspended_lem run c.args.claim.task) e.back;
+    }

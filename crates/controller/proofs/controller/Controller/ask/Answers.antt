@@ -2,4 +2,4 @@ use Rattle.controller.proofs.Running.{follows_after}
 use Rattle.controller.proofs.controller.Controller.ask.Goals as goal
 
 pub returns-clause-follows : goal.returns-clause-follows
-returns-clause-follows g c = follows_after g.B.Bank c.args.self.now c.do_ask.new.self _ g.met.B.Bank.sound c.do_ask.ensures.setup c.do_ask.ensures.does
+returns-clause-follows g c = follows_after g.B.Bank c.args.self.now c.do_ask.new.self _ g.met.B.Bank.sound c.do_ask.ensures

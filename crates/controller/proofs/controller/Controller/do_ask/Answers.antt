@@ -12,6 +12,7 @@ use Rattle.table.specs.Rows.{keeps_length, tasks_in}
 use Rattle.controller.specs.Of.{setup_of, snapshot_of}
 use Rattle.controller.proofs.Answering.{ask_answered, ask_refused}
 use Rattle.controller.proofs.Checking.{yes_parts}
+use Rattle.controller.proofs.Making.{makes}
 use Rattle.controller.proofs.Same.{same_controllers, same_setup}
 use Rattle.controller.proofs.Tasks.{each_set, tasks_written, tasks_moved, lengths_one, lengths_asked}
 use Rattle.controller.proofs.controller.Controller.do_ask.Goals as goal
@@ -29,18 +30,13 @@ returns-in_err-answer g c =
     let e = c.in_err-answer.ensures in
     let first = rw (c.jobs.ensures.ended, c.jobs.ensures.plan, c.jobs.ensures.tasks, c.jobs.ensures.rows) at c.is_first-first.ensures in
     let p = err_from_is_err_and c.from_residual-in_err-answer.result c.from_residual-in_err-answer.ensures.1 in
-    rw (p.1, p.2) (record {
-      setup = same_setup (plan_contents self.plan) self.tasks self.resources _ _ e.told;
-      does =
-          record {
-            answered = ask_refused a s c.args.task c.args.resource c.args.mode c.is_first-first.result c.in_err-answer.field-0.0 _ first c.in_ok-back.ensures.0 e.asks;
-            tasks = λ q. refl;
-            clock = refl;
-            releases = refl;
-          };
-      bank = e.keeps;
-      keeps = same_controllers _ self refl refl refl refl refl refl refl e.keeps;
-    })
+    rw (p.1, p.2) (makes b self _ _ (same_setup (plan_contents self.plan) self.tasks self.resources _ _ e.told)
+    (record {
+      answered = ask_refused a s c.args.task c.args.resource c.args.mode c.is_first-first.result c.in_err-answer.field-0.0 _ first c.in_ok-back.ensures.0 e.asks;
+      tasks = λ q. refl;
+      clock = refl;
+      releases = refl;
+    }) e.keeps (same_controllers _ self refl refl refl refl refl refl refl e.keeps))
 
 pub invariant_of-self-2-clause-blocked_ticks : goal.invariant_of-self-2-clause-blocked_ticks
 invariant_of-self-2-clause-blocked_ticks g c =
@@ -82,15 +78,10 @@ returns g c =
     let here : t < 64 = omega arith in
     let wanted : Wanted = record { resource = c.args.resource; mode = c.args.mode } in
     let new : c.store.new.self.records.rows ≡ set self.table.records.rows t (in_state (asked_state c.in_ok-answer.answer wanted) (get_or self.table.records.rows t idle_task)) = c.store.ensures.stored here ∙ ap (set self.table.records.rows t) (is_written c.in_state-record.result c.get.result (get_or self.table.records.rows t idle_task) c.in_ok-back.back c.asked_state-state.result c.in_ok-answer.answer wanted c.in_state-record.ensures c.asked_state-state.ensures c.in_ok-back.ensures.1 c.get.ensures) in
-    record {
-      setup = same_setup (plan_contents self.plan) self.tasks self.resources _ _ e.told;
-      does =
-          record {
-            answered = ask_answered a s t c.args.resource c.args.mode c.is_first-first.result c.in_ok-answer.answer _ first known e.asks;
-            tasks = tasks_moved self.tasks self.table.records.rows c.store.new.self.records.rows t (in_state (asked_state c.in_ok-answer.answer wanted)) lt self.few_tasks self.table.all_records new;
-            clock = refl;
-            releases = refl;
-          };
-      bank = e.changes;
-      keeps = tt;
-    }
+    makes b self _ _ (same_setup (plan_contents self.plan) self.tasks self.resources _ _ e.told)
+    (record {
+      answered = ask_answered a s t c.args.resource c.args.mode c.is_first-first.result c.in_ok-answer.answer _ first known e.asks;
+      tasks = tasks_moved self.tasks self.table.records.rows c.store.new.self.records.rows t (in_state (asked_state c.in_ok-answer.answer wanted)) lt self.few_tasks self.table.all_records new;
+      clock = refl;
+      releases = refl;
+    }) e.changes tt

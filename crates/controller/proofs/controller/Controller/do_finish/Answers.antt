@@ -1,4 +1,4 @@
-use Rattle.std.proofs.Common.{◌≡◌, ℕ, ◌<◌, ◌≤◌, cond, true, eqb, get_or, set, is_some, List, sym, refl, ap, ◌∙◌, subst, arith}
+use Rattle.std.proofs.Common.{◌≡◌, ℕ, ◌<◌, ◌≤◌, cond, true, eqb, get_or, set, is_some, List, Ok, sym, refl, ap, ◌∙◌, subst, arith}
 use Rattle.std.proofs.lemmas.Bool.{ltb-true, cond-false}
 use Rattle.std.proofs.lemmas.Result.{err_from_is_err_and}
 use Rattle.plan.specs.Contents.{length_at}
@@ -12,15 +12,13 @@ use Rattle.table.proofs.Rows.{set_row}
 use Rattle.controller.specs.Of.{setup_of, snapshot_of}
 use Rattle.controller.proofs.Checking.{yes_parts}
 use Rattle.controller.proofs.Finishing.{is_next, finish_issued, finish_refused}
-use Rattle.controller.proofs.Same.{same_controllers}
+use Rattle.controller.proofs.Making.{makes}
+use Rattle.controller.proofs.Same.{same_controllers, same_setup}
 use Rattle.controller.proofs.Tasks.{each_set, task_here, tasks_written, tasks_moved, lengths_one, length_wanted, lengths_issued}
 use Rattle.controller.proofs.controller.Controller.do_finish.Goals as goal
 
-pub returns-in_err-holds-clause-keeps : goal.returns-in_err-holds-clause-keeps
-returns-in_err-holds-clause-keeps g c = rw ((err_from_is_err_and c.from_residual-in_err-holds.result c.from_residual-in_err-holds.ensures.1).1) (same_controllers _ c.args.self.now refl refl refl refl refl refl refl c.in_err-holds.ensures.enters.keeps)
-
-pub returns-in_err-holds-clause-does : goal.returns-in_err-holds-clause-does
-returns-in_err-holds-clause-does g c =
+pub returns-in_err-holds : goal.returns-in_err-holds
+returns-in_err-holds g c =
     let self = c.args.self.now in
     let b = g.B.Bank in
     let a = setup_of b self in
@@ -31,12 +29,13 @@ returns-in_err-holds-clause-does g c =
     let next = is_next a s t u c.in-Some.ensures in
     let wanted : c.wanted_of-wanted.result ≡ wanted_of (s.tasks u).state = c.wanted_of-wanted.ensures ∙ ap (λ (k : Task). wanted_of k.state) (c.get-job.ensures ∙ sym (task_here self.tasks self.table.records.rows u next.known)) in
     let p = err_from_is_err_and c.from_residual-in_err-holds.result c.from_residual-in_err-holds.ensures.1 in
-    rw (p.1, p.2) (record {
+    rw (p.1, p.2) (makes b self _ _ (same_setup (plan_contents self.plan) self.tasks self.resources _ _ e.enters.tells)
+    (record {
       answered = finish_refused a s t c.in_ok-state.ensures.0 u c.in_err-holds.field-0.0 c.wanted_of-wanted.result _ c.in-Some.ensures wanted e.enters.lists (ap b.active e.enters.keeps);
       tasks = λ q. refl;
       clock = refl;
       releases = refl;
-    })
+    }) e.enters.keeps (same_controllers _ self refl refl refl refl refl refl refl e.enters.keeps))
 
 -- the record of a job that ended
 ended_is : (rows new : List Task) (t : ℕ) (st : State) (e : State) → new ≡ set rows t (record { state = st; release = 0; used = 0; blocked = 0 }) → st ≡ e → new ≡ set rows t (record { state = e; release = 0; used = 0; blocked = 0 })
@@ -82,8 +81,8 @@ invariant_of-self-2-clause-keeps_lengths g c =
     (ap (λ (k : Task). keeps_length p u k.used k.state) record_is ∙ lengths_issued p u c.in_ok-holds.holds c.wanted_of-wanted.result declared)
     (tasks_written self.tasks rows2 rows3 u c.in_state.result next.known self.few_tasks c.store-2.new.self.all_records (c.store-3.ensures.stored there))
 
-pub returns-clause-does : goal.returns-clause-does
-returns-clause-does g c =
+pub returns : goal.returns
+returns g c =
     let self = c.args.self.now in
     let b = g.B.Bank in
     let a = setup_of b self in
@@ -106,10 +105,12 @@ returns-clause-does g c =
     ∙ (ap (λ (st : State). in_state st c.get-job.result) (c.issued_state.ensures ∙ ap (issued_state c.in_ok-holds.holds) c.wanted_of-wanted.ensures)
     ∙ ap issued (c.get-job.ensures ∙ sym other)) in
     let wanted : c.wanted_of-wanted.result ≡ wanted_of (s.tasks u).state = c.wanted_of-wanted.ensures ∙ ap (λ (k : Task). wanted_of k.state) (c.get-job.ensures ∙ sym (task_here self.tasks rows u next.known)) in
-    record {
+    makes b self _ _ (same_setup (plan_contents self.plan) self.tasks self.resources _ _ c.in_ok-holds.ensures.enters.tells)
+    (record {
       answered = finish_issued a s t own c.get-blocked.result.blocked u c.in_ok-holds.holds c.wanted_of-wanted.result _ c.in-Some.ensures (ap (λ (k : Task). k.blocked) (c.get-blocked.ensures ∙ sym (task_here self.tasks rows t lt))) wanted c.in_ok-holds.ensures.enters.lists;
       tasks = λ q. tasks_moved self.tasks rows2 rows3 u issued next.known self.few_tasks c.store-2.new.self.all_records (c.store-3.ensures.stored there ∙ ap (set rows2 u) new) q
           ∙ ap (λ (k : Task). cond (eqb u q) (issued k) k) (tasks_written self.tasks rows rows2 t idle_task lt self.few_tasks self.table.all_records ended q);
       clock = refl;
       releases = refl;
-    }
+    })
+    (subst (λ (w : Wanted). b.entered w.resource u w.mode (Ok c.in_ok-holds.holds) self.bank c.enter.new.self) wanted c.in_ok-holds.ensures.exact) tt

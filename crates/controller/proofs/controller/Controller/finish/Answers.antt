@@ -2,4 +2,4 @@ use Rattle.controller.proofs.Running.{follows_after}
 use Rattle.controller.proofs.controller.Controller.finish.Goals as goal
 
 pub returns-clause-follows : goal.returns-clause-follows
-returns-clause-follows g c = follows_after g.B.Bank c.args.self.now c.do_finish.new.self _ g.met.B.Bank.sound c.do_finish.ensures.setup c.do_finish.ensures.does
+returns-clause-follows g c = follows_after g.B.Bank c.args.self.now c.do_finish.new.self _ g.met.B.Bank.sound c.do_finish.ensures

@@ -2,4 +2,4 @@ use Rattle.controller.proofs.Running.{follows_after}
 use Rattle.controller.proofs.controller.Controller.release.Goals as goal
 
 pub returns-clause-follows : goal.returns-clause-follows
-returns-clause-follows g c = follows_after g.B.Bank c.args.self.now c.do_release.new.self _ g.met.B.Bank.sound c.do_release.ensures.setup c.do_release.ensures.does
+returns-clause-follows g c = follows_after g.B.Bank c.args.self.now c.do_release.new.self _ g.met.B.Bank.sound c.do_release.ensures

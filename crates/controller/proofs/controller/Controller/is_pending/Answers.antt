@@ -1,6 +1,0 @@
-use Rattle.std.proofs.Common.{◌∙◌}
-use Rattle.rules.proofs.Law.{suspended_lem}
-use Rattle.controller.proofs.controller.Controller.is_pending.Goals as goal
-
-pub returns-clause-run : goal.returns-clause-run
-returns-clause-run g c h run = c.has_pending.ensures ∙ suspended_lem run c.args.task
