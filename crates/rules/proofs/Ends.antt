@@ -35,7 +35,7 @@ only None t = false
 only (Some u) t = eqb u t
 
 abbrev pub ended_words : TaskWords → TaskWords
-ended_words k = record { job = None; wanted = None; issued = false; used = 0; waited = k.waited; job_waited = 0; blocked = 0 }
+ended_words k = record k { job = None; wanted = None; issued = false; used = 0; job_waited = 0; blocked = 0 }
 
 module _ (a : Setup) (ks ks' : ℕ → TaskWords) (ls : Lists) (n p : ℕ) (i : Inv a nobody ks ls n) (free : (ks p).wanted ≡ None) (c : Changed ks ks' p (ended_words (ks p))) where
   unissued : (ks p).issued ≡ false

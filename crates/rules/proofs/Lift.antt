@@ -14,7 +14,7 @@ use Rattle.rules.specs.declared.event.Event.{Event}
 use Rattle.rules.specs.declared.task.Task.{Task}
 use Rattle.rules.specs.declared.task.Wanted.{Wanted}
 use Rattle.rules.proofs.Accepted.{accepted_release, accepted_work, first_unfinished}
-use Rattle.rules.proofs.Steps.{release_step, first_begun}
+use Rattle.rules.proofs.Steps.{begun_words, at_rest, release_step, first_begun}
 use Rattle.rules.proofs.Words.{TaskWords, words_of, held_in, state_in, Inv, nobody, Changed, each_task, unfinished_job}
 
 -- what never changes in a run
@@ -60,9 +60,6 @@ going_shape (Some m) (Some w) true false e f = absurd (false≢true e)
 pub going : (a : Setup) (h : History) (p : ℕ) → first_no (work_questions a (after a h) p) ≡ None → (is_some (job p h) ≡ true) × (wanted p h ≡ None)
 going a h p e = let y = accepted_work a (after a h) p e in going_shape (job p h) (wanted p h) (issued p h) (held_in p (words_of a h p) (lists h)) y.0 y.1
 
-pub not_held : (k : TaskWords) (q : ℕ) (ls : Lists) → k.issued ≡ false → held_in q k ls ≡ false
-not_held k q ls e = rw e refl
-
 module _ (a : Setup) (h : History) (i : InvOf a h) (new : Lists) where
   module _ (p m : ℕ) (d : Answered a (after a h) (released p (Ok m)) new) where
     idle : job p h ≡ None
@@ -71,12 +68,10 @@ module _ (a : Setup) (h : History) (i : InvOf a h) (new : Lists) where
     free : wanted p h ≡ None
     free = (i.tasks p).no_job idle
 
-    quiet : issued p h ≡ false
-    quiet = (i.tasks p).no_request free
-
-    changed : Changed (words_of a h) (words_of a (called h (released p (Ok m)) new)) p (record { job = Some (releases h); wanted = None; issued = false; used = 0; waited = waited p h; job_waited = 0; blocked = 0 })
+    changed : Changed (words_of a h) (words_of a (called h (released p (Ok m)) new)) p (begun_words (releases h) (words_of a h p))
     changed = record {
-      self = let z : used p h ≡ 0 = (i.tasks p).unused (not_held (words_of a h p) p (lists h) quiet) in rw (eq-eqb p p refl) (λ j. record { job = Some (releases h); wanted = free j; issued = quiet j; used = z j; waited = waited p h; job_waited = 0; blocked = 0 });
+      self = let rest = at_rest a (releases h) (lists h) p (words_of a h p) (i.tasks p) free in
+          rw (eq-eqb p p refl) (λ j. record (words_of a h p) { job = Some (releases h); wanted = free j; issued = rest.0 j; used = rest.1 j; job_waited = 0; blocked = 0 });
       others = λ q e. rw e refl;
     }
 

@@ -18,8 +18,8 @@ use Rattle.rules.specs.declared.task.State.{State}
 use Rattle.rules.specs.declared.task.State.TheVariants.{HeldBack}
 use Rattle.rules.specs.declared.task.Wanted.{Wanted}
 use Rattle.rules.proofs.Accepted.{accepted_ask}
-use Rattle.rules.proofs.Lift.{Setting, InvOf, SoundOf, Stepped, task_of, going, not_held}
-use Rattle.rules.proofs.Steps.{same_job, ask_step, issue_step, entry_new, entered_others}
+use Rattle.rules.proofs.Lift.{Setting, InvOf, SoundOf, Stepped, task_of, going}
+use Rattle.rules.proofs.Steps.{at_rest, same_job, ask_step, issue_step, entry_new, entered_others}
 use Rattle.rules.proofs.Words.{TaskWords, words_of, held_in, word_jobs, Placed, Inv, nobody, Changed, each_task, first_jobs, state_same}
 
 -- a task that was exempt no longer is
@@ -47,25 +47,22 @@ issued_state_lem (Some m) w true e = refl
 issued_state_lem (Some m) w false e = refl
 
 abbrev pub asking_words : TaskWords → Wanted → TaskWords
-asking_words k w = record { job = k.job; wanted = Some w; issued = false; used = 0; waited = k.waited; job_waited = k.job_waited; blocked = k.blocked }
+asking_words k w = record k { wanted = Some w; issued = false; used = 0 }
 
 abbrev pub issued_words : TaskWords → Wanted → TaskWords
-issued_words k w = record { job = k.job; wanted = Some w; issued = true; used = 0; waited = 0; job_waited = k.job_waited; blocked = k.blocked }
+issued_words k w = record k { wanted = Some w; issued = true; used = 0; waited = 0 }
 
 module _ (a : Setup) (set : Setting a) (h : History) (i : InvOf a h) (new : Lists) (p r : ℕ) (m : Mode) where
   abbrev w : Wanted
   w = record { resource = r; mode = m }
 
   module _ (g : (is_some (job p h) ≡ true) × (wanted p h ≡ None)) (place : Placed a p w) where
-    quiet : issued p h ≡ false
-    quiet = (i.tasks p).no_request g.1
-
-    zero_used : used p h ≡ 0
-    zero_used = (i.tasks p).unused (not_held (words_of a h p) p (lists h) quiet)
+    rest : (issued p h ≡ false) × (used p h ≡ 0)
+    rest = at_rest a (releases h) (lists h) p (words_of a h p) (i.tasks p) g.1
 
     back_changed : Changed (words_of a h) (words_of a (called h (asked p r m (Ok Back)) new)) p (asking_words (words_of a h p) w)
     back_changed = record {
-      self = rw (eq-eqb p p refl) (λ j. record { job = job p h; wanted = Some w; issued = quiet j; used = zero_used j; waited = waited p h; job_waited = (words_of a h p).job_waited; blocked = (words_of a h p).blocked });
+      self = rw (eq-eqb p p refl) (λ j. record (words_of a h p) { wanted = Some w; issued = rest.0 j; used = rest.1 j });
       others = λ q e. rw e refl;
     }
 

@@ -17,9 +17,9 @@ use Rattle.rules.specs.declared.task.Task.{Task}
 use Rattle.rules.specs.declared.task.Wanted.{Wanted}
 use Rattle.rules.proofs.Accepted.{accepted_finish}
 use Rattle.rules.proofs.Ends.{only, ended_words, end_step, stays_first_lem, next_back}
-use Rattle.rules.proofs.Lift.{Setting, InvOf, SoundOf, Stepped, task_of, going, not_held}
+use Rattle.rules.proofs.Lift.{Setting, InvOf, SoundOf, Stepped, task_of, going}
 use Rattle.rules.proofs.LiftAsk.{update, updated, back_state, issued_state_lem, issued_words}
-use Rattle.rules.proofs.Steps.{same_job, issue_step, entry_new, entered_others}
+use Rattle.rules.proofs.Steps.{at_rest, same_job, issue_step, entry_new, entered_others}
 use Rattle.rules.proofs.Words.{TaskWords, words_of, held_in, state_in, word_jobs, Inv, Changed, each_task, first_jobs, state_same}
 
 -- the request of a held-back task
@@ -55,11 +55,8 @@ module _ (a : Setup) (h : History) (i : InvOf a h) (p : ℕ) (free : wanted p h 
   pub next_same : next_issued a (after a h) p ≡ next_of a.plan a.tasks (word_jobs ks₁ (lists h)) (cluster_of a.plan p)
   next_same = ap (λ (j : Jobs). next_of a.plan a.tasks j (cluster_of a.plan p)) ended_jobs
 
-  quiet : issued p h ≡ false
-  quiet = (i.tasks p).no_request free
-
-  zero_used : used p h ≡ 0
-  zero_used = (i.tasks p).unused (not_held (words_of a h p) p (lists h) quiet)
+  rest : (issued p h ≡ false) × (used p h ≡ 0)
+  rest = at_rest a (releases h) (lists h) p (words_of a h p) (i.tasks p) free
 
   -- what is known of the task that comes among the first
   pub record Next (u : ℕ) : Type 0 where
@@ -103,7 +100,7 @@ module _ (a : Setup) (h : History) (i : InvOf a h) (p : ℕ) (free : wanted p h 
 
     changed : Changed (words_of a h) (words_of a (called h (finished p (Ok e₀)) new)) p (ended_words (words_of a h p))
     changed = record {
-      self = rw (eq-eqb p p refl) (λ j. record { job = None; wanted = free j; issued = quiet j; used = zero_used j; waited = waited p h; job_waited = 0; blocked = 0 });
+      self = rw (eq-eqb p p refl) (λ j. record (words_of a h p) { job = None; wanted = free j; issued = rest.0 j; used = rest.1 j; job_waited = 0; blocked = 0 });
       others = λ q e. rw e refl;
     }
 
@@ -151,13 +148,13 @@ module _ (a : Setup) (h : History) (i : InvOf a h) (p : ℕ) (free : wanted p h 
 
     issue_change : Changed ks₁ ks' u (issued_words (ks₁ u) w)
     issue_change = record {
-      self = rw (n.other, eq-eqb u u refl) (λ j. record { job = job u h; wanted = n.is j; issued = true; used = 0; waited = 0; job_waited = (words_of a h u).job_waited; blocked = (words_of a h u).blocked });
+      self = rw (n.other, eq-eqb u u refl) (λ j. record (words_of a h u) { wanted = n.is j; issued = true; used = 0; waited = 0 });
       others = λ q e. go q e (eqb p q) refl;
     }
       where
         go : (q : ℕ) → eqb u q ≡ false → (b : Bool) → eqb p q ≡ b → ks' q ≡ ks₁ q
         go q e true g = subst (λ (z : ℕ). ks' z ≡ ks₁ z) (eqb-true p q g)
-            (rw (eq-eqb p p refl, off) (λ j. record { job = None; wanted = free j; issued = quiet j; used = zero_used j; waited = waited p h; job_waited = 0; blocked = 0 }))
+            (rw (eq-eqb p p refl, off) (λ j. record (words_of a h p) { job = None; wanted = free j; issued = rest.0 j; used = rest.1 j; job_waited = 0; blocked = 0 }))
         go q e false g = rw (e, g) refl
 
     others : (q : ℕ) → q < a.resources → (q ≡ w.resource → ⊥) → new q ≡ lists h q

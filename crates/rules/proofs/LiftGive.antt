@@ -39,7 +39,7 @@ holding_shape (Some m) (Some w) true true e = record { wanted = w; is = refl; is
 holding_shape (Some m) (Some w) true false e = absurd (false≢true e)
 
 abbrev pub given_words : TaskWords → TaskWords
-given_words k = record { job = k.job; wanted = None; issued = false; used = 0; waited = 0; job_waited = k.job_waited; blocked = k.blocked }
+given_words k = record k { wanted = None; issued = false; used = 0; waited = 0 }
 
 -- another task's record after a give at r, where `new` tells whether it holds then
 module _ (r : ℕ) (q : ℕ) (new : Lists) (n u b : ℕ) where

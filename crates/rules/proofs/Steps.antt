@@ -43,6 +43,10 @@ module _ (a : Setup) (ks ks' : ℕ → TaskWords) (p : ℕ) (new : TaskWords) (c
 pub unlisted : (a : Setup) (n : ℕ) (ls : Lists) (q : ℕ) (k : TaskWords) → TaskKept a n ls q k → k.issued ≡ false → (r : ℕ) → r < a.resources → listed q (ls r) ≡ 0
 unlisted a n ls q k t e r lt = t.once r lt ∙ ap (λ (b : Bool). cond (b && is_at r k.wanted) 1 0) e
 
+-- a task without a request has none that is issued, and used nothing
+pub at_rest : (a : Setup) (n : ℕ) (ls : Lists) (q : ℕ) (k : TaskWords) → TaskKept a n ls q k → k.wanted ≡ None → (k.issued ≡ false) × (k.used ≡ 0)
+at_rest a n ls q k t free = let quiet = t.no_request free in (quiet, t.unused (rw quiet refl))
+
 same_lists : (a : Setup) (q : ℕ) (ls : Lists) → SameEntries a q ls ls
 same_lists a q ls r lt = (refl, refl)
 
@@ -55,12 +59,15 @@ has_job a n ls q k t e = go k.job refl
     go (Some m) f = refl
 
 -- a job begins
+abbrev pub begun_words : ℕ → TaskWords → TaskWords
+begun_words n k = record k { job = Some n; wanted = None; issued = false; used = 0; job_waited = 0; blocked = 0 }
+
 module _ (a : Setup) (ks ks' : ℕ → TaskWords) (ls : Lists) (n p : ℕ) (i : Inv a nobody ks ls n) (lt : p < a.tasks) (idle : (ks p).job ≡ None)
-    (c : Changed ks ks' p (record { job = Some n; wanted = None; issued = false; used = 0; waited = (ks p).waited; job_waited = 0; blocked = 0 })) where
+    (c : Changed ks ks' p (begun_words n (ks p))) where
   unissued : (ks p).issued ≡ false
   unissued = (i.tasks p).no_request ((i.tasks p).no_job idle)
 
-  begun : TaskKept a (n + 1) ls p (record { job = Some n; wanted = None; issued = false; used = 0; waited = (ks p).waited; job_waited = 0; blocked = 0 })
+  begun : TaskKept a (n + 1) ls p (begun_words n (ks p))
   begun = record {
     no_job = λ e. absurd (some_none e refl);
     no_request = λ e. refl;

@@ -83,10 +83,7 @@ module _ (a : Setup) (ks : ℕ → TaskWords) (ls : Lists) (n : ℕ) (i : Inv a 
 module _ (a : Setup) (known : a.tasks ≤ length a.plan.tasks) (ks : ℕ → TaskWords) (ls : Lists) (n : ℕ) (i : Inv a nobody ks ls n)
     (early : (q : ℕ) (w : Wanted) → (ks q).wanted ≡ Some w → held_in q (ks q) ls ≡ true → (ks q).used < length_for a.plan q w.resource) where
   abbrev ticking : ℕ → TaskWords
-  ticking q = record {
-    job = (ks q).job;
-    wanted = (ks q).wanted;
-    issued = (ks q).issued;
+  ticking q = record (ks q) {
     used = one_more_if (held_in q (ks q) ls) (ks q).used;
     waited = one_more_if (waits_in q (ks q) ls) (ks q).waited;
     job_waited = one_more_if (waits_in q (ks q) ls) (ks q).job_waited;

@@ -68,8 +68,10 @@ pub record Kept (a : Setup) (h : History) : Type 0 where
   -- Waits are bounded.
   pub waits_bounded : (t : ℕ) → issued t h ≡ true → WithinLimit a (waited t h) (wanted t h)
   -- A request is issued while its job is among the first, and held back while it is not.
-  pub issued_first : (t : ℕ) → issued t h ≡ true → is_among_first a.plan a.tasks (jobs_after h) t ≡ true
-  pub held_back : (t : ℕ) → is_held_back (state t h) ≡ true → is_among_first a.plan a.tasks (jobs_after h) t ≡ false
+  pub issued_first : (t : ℕ) → issued t h ≡ true
+      → is_among_first a.plan a.tasks (jobs_after h) t ≡ true
+  pub held_back : (t : ℕ) → is_held_back (state t h) ≡ true
+      → is_among_first a.plan a.tasks (jobs_after h) t ≡ false
   -- The bank has no more requests than there are processors.
   pub few_requests : requests_to (lists h) a.resources ≤ processors a.plan
   -- No two unfinished jobs have the same release number.
@@ -89,11 +91,13 @@ LateNamed a _ h = ⊤
 -- of the requests held back after h, the one is issued whose job is then among the first, and none
 -- where there is none
 abbrev pub IssuesFirst : Setup → History → Jobs → Option Issued → Type 0
-IssuesFirst a h jobs None = (u : ℕ) → held_back u h ≡ true → is_among_first a.plan a.tasks jobs u ≡ false
+IssuesFirst a h jobs None =
+    (u : ℕ) → held_back u h ≡ true → is_among_first a.plan a.tasks jobs u ≡ false
 IssuesFirst a h jobs (Some i) =
     (held_back i.task h ≡ true)
     × (is_among_first a.plan a.tasks jobs i.task ≡ true)
-    × ((u : ℕ) → held_back u h ≡ true → is_among_first a.plan a.tasks jobs u ≡ true → u ≡ i.task)
+    × ((u : ℕ)
+    → held_back u h ≡ true → is_among_first a.plan a.tasks jobs u ≡ true → u ≡ i.task)
 
 abbrev pub NextIssued : Setup → Event → History → Jobs → Type 0
 NextIssued a (Accepted (Finish t f)) h jobs = IssuesFirst a h jobs f.issued
@@ -107,7 +111,8 @@ pub record LawfulCall (a : Setup) (h : History) (e : Event) (new : Lists) : Type
   pub late_named : LateNamed a e h
   pub next_issued : NextIssued a e h (jobs_after (called h e new))
   -- The first stay first: a job among the first stays among them until it finishes.
-  pub stays_first : (t : ℕ) → is_among_first a.plan a.tasks (jobs_after h) t ≡ true → ends t e ≡ false
+  pub stays_first : (t : ℕ) → is_among_first a.plan a.tasks (jobs_after h) t ≡ true
+      → ends t e ≡ false
       → is_among_first a.plan a.tasks (jobs_after (called h e new)) t ≡ true
   pub kept : Kept a (called h e new)
 

@@ -85,7 +85,8 @@ next_questions a s (Some u) = issue_questions a s u (wanted_by s u)
 abbrev pub bank_questions : Setup → Snapshot → Call → List Question
 bank_questions a s (Release t) = []
 bank_questions a s (Ask t r m) =
-    cond (is_among_first a.plan a.tasks (jobs_in s) t) (issue_questions a s t (record { resource = r; mode = m })) []
+    cond (is_among_first a.plan a.tasks (jobs_in s) t)
+    (issue_questions a s t (record { resource = r; mode = m })) []
 bank_questions a s (Give t) =
     leave_questions a.told (wanted_by s t).resource t (s.lists (wanted_by s t).resource)
 bank_questions a s (Finish t) = next_questions a s (next_issued a s t)
