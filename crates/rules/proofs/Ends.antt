@@ -1,5 +1,6 @@
 -- What every run keeps is kept when a job ends: of the jobs held back, one at most is then among the first.
 use Rattle.std.proofs.Common.{◌≡◌, ℕ, ◌<◌, ◌≤◌, Bool, true, false, cond, ◌&&◌, eqb, is_some, Some, None, Option, unwrap_or, sym, refl, ap, ◌∙◌, subst, ⊎_elim}
+use Rattle.std.proofs.lemmas.Option.{none-some}
 use Rattle.std.proofs.lemmas.Bool.{eqb-true, eqb-false, eq-eqb, ne_eqb, and_parts, and_from, false≢true, both_ways, cases_eq, cases_Bool}
 use Rattle.bank.specs.Meaning.{Lists}
 use Rattle.plan.specs.Contents.{longest_at}
@@ -9,7 +10,7 @@ use Rattle.rules.specs.States.{is_held_back}
 use Rattle.rules.specs.declared.task.Wanted.{Wanted}
 use Rattle.rules.proofs.Counts.{least_some, least_none}
 use Rattle.rules.proofs.Places.{first_ended, ended_other_cluster, ended_one, later_not_first}
-use Rattle.rules.proofs.Steps.{some_none, has_job, unlisted, owed_others}
+use Rattle.rules.proofs.Steps.{has_job, unlisted, owed_others}
 use Rattle.rules.proofs.Words.{TaskWords, held_in, state_in, word_jobs, TaskKept, Inv, nobody, Changed, each_task, unfinished_job, numbered}
 
 -- the shape of a held-back task
@@ -125,13 +126,13 @@ module _ (a : Setup) (ks ks' : ℕ → TaskWords) (ls : Lists) (n p : ℕ) (i : 
     no_request = λ e. refl;
     known = λ e. absurd (false≢true e);
     below = λ e. absurd (false≢true e);
-    placed = λ v e. absurd (some_none refl e);
+    placed = λ v e. absurd (none-some _ e);
     unused = λ e. refl;
-    in_time = λ v e. absurd (some_none refl e);
+    in_time = λ v e. absurd (none-some _ e);
     blocked = refl;
     bounded = λ e. absurd (false≢true e);
     once = unlisted a n ls p (ks p) (i.tasks p) unissued;
-    mode = λ v e. absurd (some_none refl e);
+    mode = λ v e. absurd (none-some _ e);
   }
 
   apart' : (t u : ℕ) → is_some (ks' t).job ≡ true → is_some (ks' u).job ≡ true → unwrap_or (ks' t).job 0 ≡ unwrap_or (ks' u).job 0 → t ≡ u
@@ -163,9 +164,9 @@ module _ (a : Setup) (ks ks' : ℕ → TaskWords) (ls : Lists) (n p : ℕ) (i : 
   next_back u = go (least_below back_test (λ u. (word_jobs ks' ls).number u) a.tasks) refl
     where
       go : (o : Option ℕ) → least_below back_test (λ u. (word_jobs ks' ls).number u) a.tasks ≡ o → if_first a.plan a.tasks (word_jobs ks' ls) o ≡ Some u → Back u × (is_among_first a.plan a.tasks (word_jobs ks' ls) u ≡ true)
-      go None least e = absurd (some_none refl e)
+      go None least e = absurd (none-some _ e)
       go (Some v) least e = at (is_among_first a.plan a.tasks (word_jobs ks' ls) v) refl e
         where
           at : (b : Bool) → is_among_first a.plan a.tasks (word_jobs ks' ls) v ≡ b → cond b (Some v) None ≡ Some u → Back u × (is_among_first a.plan a.tasks (word_jobs ks' ls) u ≡ true)
           at true g e = let same : v ≡ u = cc in subst (λ (z : ℕ). Back z × (is_among_first a.plan a.tasks (word_jobs ks' ls) z ≡ true)) same (back_of v (least_some back_test (λ u. (word_jobs ks' ls).number u) a.tasks v least).0, g)
-          at false g e = absurd (some_none refl e)
+          at false g e = absurd (none-some _ e)

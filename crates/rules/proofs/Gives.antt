@@ -1,5 +1,6 @@
 -- What every run keeps is kept when a holder gives back.
 use Rattle.std.proofs.Common.{◌≡◌, ℕ, zero, suc, ◌<◌, ◌≤◌, max, Bool, true, false, cond, not, ◌&&◌, eqb, ◌⊎◌, length, is_some, Some, None, Option, unwrap_or, sym, refl, ap, ◌∙◌, subst, inl, inr, ⊎_elim, arith}
+use Rattle.std.proofs.lemmas.Option.{none-some, same_Some}
 use Rattle.std.proofs.lemmas.Bool.{eqb-true, eqb-false, eq-eqb, ne_eqb, and_parts, false≢true, both_ways, cases_eq, cases_Bool, cond-true, cond-false}
 use Rattle.std.specs.List.{AllZip, AllByRecursion}
 use Rattle.bank.specs.Lists.{request_of, is_holder, without, holds}
@@ -13,7 +14,7 @@ use Rattle.rules.specs.Promises.{is_at}
 use Rattle.rules.specs.Questions.{length_for}
 use Rattle.rules.specs.declared.task.Wanted.{Wanted}
 use Rattle.rules.proofs.Entries.{listed, listed_without, request_without, listed_gone, listed_stays, request_stays, request_some, request_party, holder_held, all_entries}
-use Rattle.rules.proofs.Steps.{some_none, some_same, has_job, same_job, same_apart, owed_others}
+use Rattle.rules.proofs.Steps.{has_job, same_job, same_apart, owed_others}
 use Rattle.rules.proofs.Waiting.{OwedAll, Within, owed_leave}
 use Rattle.rules.proofs.Words.{TaskWords, held_in, waits_in, word_jobs, TaskKept, Inv, nobody, Changed, each_task, first_jobs}
 
@@ -155,7 +156,7 @@ module _ (a : Setup) (known : a.tasks ≤ length a.plan.tasks) (ks ks' : ℕ →
           let g = request_party q (ls' w.resource) y f in
           let x = request_some q (ls w.resource) (omega (arith, g.1, left_listed w.resource l)) in
           let s = left_entry w.resource l x.0 x.1 in
-          ap (λ (z : Request). z.mode) (some_same (sym f ∙ s.1)) ∙ s.2 ∙ (i.tasks q).mode w e x.0 x.1;
+          ap (λ (z : Request). z.mode) (same_Some _ _ (sym f ∙ s.1)) ∙ s.2 ∙ (i.tasks q).mode w e x.0 x.1;
     }
 
   giving : TaskKept a n ls' p (record { job = (ks p).job; wanted = None; issued = false; used = 0; waited = 0; job_waited = (ks p).job_waited; blocked = (ks p).blocked })
@@ -164,13 +165,13 @@ module _ (a : Setup) (known : a.tasks ≤ length a.plan.tasks) (ks ks' : ℕ →
     no_request = λ e. refl;
     known = (i.tasks p).known;
     below = (i.tasks p).below;
-    placed = λ v e. absurd (some_none refl e);
+    placed = λ v e. absurd (none-some _ e);
     unused = λ e. refl;
-    in_time = λ v e. absurd (some_none refl e);
+    in_time = λ v e. absurd (none-some _ e);
     blocked = (i.tasks p).blocked;
     bounded = λ e. absurd (false≢true e);
     once = gone;
-    mode = λ v e. absurd (some_none refl e);
+    mode = λ v e. absurd (none-some _ e);
   }
 
   owed_left : (r' : ℕ) → r' < a.resources → OwedAll a.told r' (longest_at a.plan r') (λ q. (ks q).used) (λ q. (ks q).waited) (ls' r')

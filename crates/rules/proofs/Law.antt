@@ -1,5 +1,6 @@
 -- The law over every run: what is kept after each call gives the promises.
 use Rattle.std.proofs.Common.{◌≡◌, ℕ, ◌<◌, ◌≤◌, Bool, true, false, [], is_some, Some, None, Ok, Err, Option, unwrap_or, sym, refl, ap, ◌∙◌, subst, ⊎_elim, arith}
+use Rattle.std.proofs.lemmas.Option.{none-some}
 use mathlib.Core.Path.{fun_ext}
 use Rattle.std.proofs.lemmas.Bool.{and_parts, false≢true, both_ways}
 use Rattle.std.specs.List.{AllByRecursion}
@@ -26,7 +27,7 @@ use Rattle.rules.proofs.LiftFinish.{finished_stepped}
 use Rattle.rules.proofs.LiftGive.{gave_stepped, ticked_stepped}
 use Rattle.rules.proofs.Places.{first_ready_runs}
 use Rattle.rules.proofs.Promised.{late_named, next_lem, issued_first, few_requests, numbers_apart}
-use Rattle.rules.proofs.Steps.{some_none, has_job}
+use Rattle.rules.proofs.Steps.{has_job}
 use Rattle.rules.proofs.Takes.{bank_takes_lem}
 use Rattle.rules.proofs.Ticks.{held_or_waits}
 use Rattle.rules.proofs.Words.{words_of, held_in, TaskKept, nobody}
@@ -139,13 +140,13 @@ module _ (a : Setup) (s : Snapshot) (b : Begins a s) (sound : SoundLists a s) wh
     no_request = λ e. refl;
     known = λ e. absurd (false≢true e);
     below = λ e. absurd (false≢true e);
-    placed = λ w e. absurd (some_none refl e);
+    placed = λ w e. absurd (none-some _ e);
     unused = λ e. refl;
-    in_time = λ w e. absurd (some_none refl e);
+    in_time = λ w e. absurd (none-some _ e);
     blocked = refl;
     bounded = λ e. absurd (false≢true e);
     once = λ r lr. rw (empty r lr) refl;
-    mode = λ w e. absurd (some_none refl e);
+    mode = λ w e. absurd (none-some _ e);
   }
 
   inv₀ : InvOf a h₀

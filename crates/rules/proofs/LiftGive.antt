@@ -1,5 +1,6 @@
 -- From the words of a history to the words after a give more, and after a tick more.
 use Rattle.std.proofs.Common.{◌≡◌, ℕ, ◌<◌, Bool, true, false, cond, not, ◌&&◌, eqb, ◌⊎◌, List, is_some, Some, None, Ok, Option, unwrap_or, sym, refl, ap, ◌∙◌, subst, inl, inr, arith}
+use Rattle.std.proofs.lemmas.Option.{none-some}
 use Rattle.std.proofs.lemmas.Bool.{eq-eqb, ne_eqb, and_parts, leb-false, false≢true, cases_eq}
 use Rattle.bank.specs.Lists.{request_of}
 use Rattle.bank.specs.Meaning.{Lists}
@@ -18,7 +19,7 @@ use Rattle.rules.proofs.Accepted.{accepted_give, accepted_tick}
 use Rattle.rules.proofs.Counts.{lowest_none}
 use Rattle.rules.proofs.Gives.{At, give_step, left_held}
 use Rattle.rules.proofs.Lift.{Setting, InvOf, SoundOf, Stepped, task_of}
-use Rattle.rules.proofs.Steps.{some_none, has_job, same_job}
+use Rattle.rules.proofs.Steps.{has_job, same_job}
 use Rattle.rules.proofs.Ticks.{tick_step, blocked_waits, held_or_waits}
 use Rattle.rules.proofs.Words.{TaskWords, words_of, held_in, waits_in, Placed, Changed, each_task, first_jobs}
 
@@ -128,7 +129,7 @@ module _ (a : Setup) (set : Setting a) (h : History) (i : InvOf a h) (new : List
 
   in_time_lem : (j : Option ℕ) (o : Option Wanted) (b x : Bool) (q u : ℕ) → late_in a.plan q u (state_of j o b x) ≡ false → is_some j ≡ true → b ≡ true → x ≡ true → (w : Wanted) → o ≡ Some w → u < length_for a.plan q w.resource
   in_time_lem None o b x q u l ej eb ex w e = absurd (false≢true ej)
-  in_time_lem (Some n) None b x q u l ej eb ex w e = absurd (some_none refl e)
+  in_time_lem (Some n) None b x q u l ej eb ex w e = absurd (none-some _ e)
   in_time_lem (Some n) (Some v) false x q u l ej eb ex w e = absurd (false≢true eb)
   in_time_lem (Some n) (Some v) true false q u l ej eb ex w e = absurd (false≢true ex)
   in_time_lem (Some n) (Some v) true true q u l ej eb ex w e = let same : v ≡ w = cc in subst (λ (z : Wanted). u < length_for a.plan q z.resource) same (leb-false (length_for a.plan q v.resource) u l)

@@ -1,5 +1,6 @@
 -- What every run keeps is kept when a job begins, when it asks, when a request is issued and when a job ends.
 use Rattle.std.proofs.Common.{◌≡◌, ℕ, ◌+◌, ◌<◌, ◌≤◌, Bool, true, false, cond, ◌&&◌, eqb, ◌⊎◌, List, [], ◌∷◌, ◌++◌, is_some, Some, None, Option, unwrap_or, sym, refl, ap, ◌∙◌, subst, inl, inr, ⊎_elim, arith}
+use Rattle.std.proofs.lemmas.Option.{none-some, same_Some}
 use Rattle.std.proofs.lemmas.Bool.{eqb-true, eq-eqb, ne_eqb, false≢true, cases_eq, cond-true, cond-false}
 use Rattle.std.specs.List.{AllByRecursion}
 use Rattle.bank.specs.Lists.{request_of}
@@ -13,9 +14,6 @@ use Rattle.rules.proofs.Entries.{listed, count_push, request_push_other, request
 use Rattle.rules.proofs.Places.{first_released}
 use Rattle.rules.proofs.Waiting.{OwedAll, owed_same, owed_enter}
 use Rattle.rules.proofs.Words.{TaskWords, state_in, word_jobs, Placed, TaskKept, Inv, nobody, Changed, each_task, unfinished_job, numbered, first_jobs, SameEntries, task_same}
-
-pub some_none : {A : Type 0} {x : A} {o : Option A} → o ≡ None → o ≡ Some x → ⊥
-some_none p q = let z : ◌≡◌ {A = ℕ} 0 1 = cc in omega arith
 
 pub none_some : {A : Type 0} {o : Option A} → o ≡ None → is_some o ≡ true → ⊥
 none_some p q = false≢true (rw p at (ap (λ (b : Bool). b) q))
@@ -69,17 +67,17 @@ module _ (a : Setup) (ks ks' : ℕ → TaskWords) (ls : Lists) (n p : ℕ) (i : 
 
   begun : TaskKept a (n + 1) ls p (begun_words n (ks p))
   begun = record {
-    no_job = λ e. absurd (some_none e refl);
+    no_job = λ e. absurd (none-some _ (sym e));
     no_request = λ e. refl;
     known = λ e. lt;
     below = λ e. omega arith;
-    placed = λ w e. absurd (some_none refl e);
+    placed = λ w e. absurd (none-some _ e);
     unused = λ e. refl;
-    in_time = λ w e. absurd (some_none refl e);
+    in_time = λ w e. absurd (none-some _ e);
     blocked = refl;
     bounded = λ e. absurd (false≢true e);
     once = λ r lr. unlisted a n ls p (ks p) (i.tasks p) unissued r lr;
-    mode = λ w e. absurd (some_none refl e);
+    mode = λ w e. absurd (none-some _ e);
   }
 
   kept : (q : ℕ) → TaskKept a (n + 1) ls q (ks' q)
@@ -132,9 +130,6 @@ pub same_apart : (ks ks' : ℕ → TaskWords) → ((q : ℕ) → (ks' q).job ≡
 same_apart ks ks' same apart t u x y e =
     apart t u (sym (ap is_some (same t)) ∙ x) (sym (ap is_some (same u)) ∙ y) (sym (ap (λ (o : Option ℕ). unwrap_or o 0) (same t)) ∙ e ∙ ap (λ (o : Option ℕ). unwrap_or o 0) (same u))
 
-pub some_same : {A : Type 0} {x y : A} → Some x ≡ Some y → x ≡ y
-some_same e = cc
-
 -- a job asks
 module _ (a : Setup) (ks ks' : ℕ → TaskWords) (ls : Lists) (n p : ℕ) (w : Wanted) (i : Inv a nobody ks ls n) (has : is_some (ks p).job ≡ true) (free : (ks p).wanted ≡ None) (place : Placed a p w)
     (c : Changed ks ks' p (record { job = (ks p).job; wanted = Some w; issued = false; used = 0; waited = (ks p).waited; job_waited = (ks p).job_waited; blocked = (ks p).blocked })) where
@@ -144,16 +139,16 @@ module _ (a : Setup) (ks ks' : ℕ → TaskWords) (ls : Lists) (n p : ℕ) (w : 
   asking : TaskKept a n ls p (record { job = (ks p).job; wanted = Some w; issued = false; used = 0; waited = (ks p).waited; job_waited = (ks p).job_waited; blocked = (ks p).blocked })
   asking = record {
     no_job = λ e. absurd (none_some e has);
-    no_request = λ e. absurd (some_none e refl);
+    no_request = λ e. absurd (none-some _ (sym e));
     known = (i.tasks p).known;
     below = (i.tasks p).below;
-    placed = λ v e. subst (Placed a p) (some_same e) place;
+    placed = λ v e. subst (Placed a p) (same_Some _ _ e) place;
     unused = λ e. refl;
     in_time = λ v e f. absurd (false≢true f);
     blocked = (i.tasks p).blocked;
     bounded = λ e. absurd (false≢true e);
     once = λ r lr. unlisted a n ls p (ks p) (i.tasks p) unasked r lr;
-    mode = λ v e x f. absurd (some_none (request_none p (ls v.resource) (unlisted a n ls p (ks p) (i.tasks p) unasked v.resource (subst (Placed a p) (some_same e) place).there)) f);
+    mode = λ v e x f. absurd (none-some _ (sym (request_none p (ls v.resource) (unlisted a n ls p (ks p) (i.tasks p) unasked v.resource (subst (Placed a p) (same_Some _ _ e) place).there)) ∙ f));
   }
 
   pub ask_step : Inv a (λ t. eqb p t) ks' ls n
@@ -203,20 +198,20 @@ module _ (a : Setup) (ks ks' : ℕ → TaskWords) (ls ls' : Lists) (n p : ℕ) (
 
   entering : TaskKept a n ls' p (record { job = (ks p).job; wanted = Some w; issued = true; used = 0; waited = 0; job_waited = (ks p).job_waited; blocked = (ks p).blocked })
   entering = record {
-    no_job = λ e. absurd (some_none ((i.tasks p).no_job e) wants);
-    no_request = λ e. absurd (some_none e refl);
+    no_job = λ e. absurd (none-some _ (sym ((i.tasks p).no_job e) ∙ wants));
+    no_request = λ e. absurd (none-some _ (sym e));
     known = (i.tasks p).known;
     below = (i.tasks p).below;
-    placed = λ v e. subst (Placed a p) (some_same e) place_of;
+    placed = λ v e. subst (Placed a p) (same_Some _ _ e) place_of;
     unused = λ e. refl;
     in_time = λ v e f. omega arith;
     blocked = (i.tasks p).blocked;
     bounded = λ e. omega arith;
     once = once_new;
     mode = λ v e y f.
-        let same : w ≡ v = some_same e in
+        let same : w ≡ v = same_Some _ _ e in
         let g : request_of p (ls' w.resource) ≡ Some y = ap (λ (z : Wanted). request_of p (ls' z.resource)) same ∙ f in
-        ap (λ (z : Request). z.mode) (some_same (sym g ∙ entry_new)) ∙ added.mode ∙ ap (λ (z : Wanted). z.mode) same;
+        ap (λ (z : Request). z.mode) (same_Some _ _ (sym g ∙ entry_new)) ∙ added.mode ∙ ap (λ (z : Wanted). z.mode) same;
   }
 
   first_new : (t : ℕ) → is_among_first a.plan a.tasks (word_jobs ks' ls') t ≡ is_among_first a.plan a.tasks (word_jobs ks ls) t

@@ -1,5 +1,6 @@
 -- In a run the bank takes every request that is issued, and lets every holder leave.
 use Rattle.std.proofs.Common.{◌≡◌, ℕ, ◌<◌, ◌≤◌, Bool, true, false, cond, ◌&&◌, eqb, List, [], length, is_some, Some, None, Ok, Err, Option, sym, refl, ap, ◌∙◌, subst, arith}
+use Rattle.std.proofs.lemmas.Option.{none-some}
 use Rattle.std.proofs.lemmas.Bool.{eqb-true, lt-ltb, false≢true}
 use Rattle.text.specs.Questions.{Question, first_no}
 use Rattle.bank.specs.Lists.{is_active, is_holder, request_of}
@@ -29,7 +30,7 @@ use Rattle.rules.proofs.Lift.{Setting, InvOf, going}
 use Rattle.rules.proofs.LiftFinish.{next_known, ended_inv, ks₁}
 use Rattle.rules.proofs.LiftGive.{Holds, holding_shape}
 use Rattle.rules.proofs.Places.{seat_left}
-use Rattle.rules.proofs.Steps.{some_none, unlisted}
+use Rattle.rules.proofs.Steps.{unlisted}
 use Rattle.rules.proofs.Words.{TaskWords, words_of, held_in, word_jobs, Inv, nobody, numbered}
 
 -- all of a bank's questions are answered yes
@@ -59,7 +60,7 @@ own_of : (own bank : List Question) (why : Refusal) → RefusedBy own bank why �
 own_of own bank why d takes = go (from_bank why) refl d.decided
   where
     go : (b : Bool) → from_bank why ≡ b → first_no (cond b bank own) ≡ Some (number why) → from_bank why ≡ false
-    go true e f = absurd (some_none (takes (d.own_first e)) f)
+    go true e f = absurd (none-some _ (sym (takes (d.own_first e)) ∙ f))
     go false e f = e
 
 module _ (a : Setup) (set : Setting a) (h : History) (i : InvOf a h) where

@@ -1,5 +1,6 @@
 -- What every run keeps is kept on a tick, and a job is blocked exactly where its request waits.
 use Rattle.std.proofs.Common.{◌≡◌, ℕ, ◌+◌, ◌*◌, ◌<◌, ◌≤◌, Bool, true, false, cond, not, ◌&&◌, eqb, List, [], ◌∷◌, length, is_some, Some, None, Option, sym, refl, ap, ◌∙◌, subst, arith}
+use Rattle.std.proofs.lemmas.Option.{none-some}
 use Rattle.std.proofs.lemmas.Bool.{eq-eqb, false≢true, both_ways, cond-true, not-true}
 use Rattle.std.specs.List.{AllByRecursion}
 use Rattle.bank.specs.Lists.{request_of, holds}
@@ -16,13 +17,12 @@ use Rattle.rules.specs.declared.task.Wanted.{Wanted}
 use Rattle.rules.proofs.Entries.{listed, request_some, request_party}
 use Rattle.rules.proofs.Gives.{At, held_entry, waits_entry, entries, exists, length_longest}
 use Rattle.rules.proofs.Places.{blocked_is, not_blocked_later, not_blocked_ready}
-use Rattle.rules.proofs.Steps.{some_none}
 use Rattle.rules.proofs.Waiting.{OwedAll, Within, owed_tick, owed_bound}
 use Rattle.rules.proofs.Words.{TaskWords, held_in, waits_in, word_jobs, TaskKept, Inv, nobody, unfinished_job, first_jobs}
 
 -- the entry of a task is one of the list
 all_at : (P : Request → Type 0) (q : ℕ) (xs : List Request) (x : Request) → AllByRecursion P xs → request_of q xs ≡ Some x → P x
-all_at P q [] x h e = absurd (some_none refl e)
+all_at P q [] x h e = absurd (none-some _ e)
 all_at P q (y ∷ xs) x h e = go (all_at P q xs x h.1) (eqb y.party q) e
   where
     go : (request_of q xs ≡ Some x → P x) → (b : Bool) → cond b (Some y) (request_of q xs) ≡ Some x → P x
