@@ -1,2 +1,3 @@
 pub mod Places
 pub mod Rows
+pub mod Searches

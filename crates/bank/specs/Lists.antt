@@ -1,14 +1,14 @@
 -- A resource's active requests, a list in order of entry.
 use Rattle.std.specs.Prelude.{ℕ, ◌+◌, Bool, true, false, cond, not, ◌&&◌, ◌||◌, List, [], ◌∷◌, Some, None, Option, ◌==◌, nat_eq}
 use Rattle.bank.specs.declared.request.Mode.{Mode}
-use Rattle.bank.specs.declared.request.Mode.TheVariants.{Write, Read}
+use Rattle.bank.specs.declared.request.Mode.TheVariants.{Write}
 use Rattle.bank.specs.declared.request.Request.{Request}
 use Rattle.bank.specs.declared.request.Standing.{Standing}
 use Rattle.bank.specs.declared.request.Standing.TheVariants.{Holds, Waits}
 
 abbrev pub is_write : Mode → Bool
 is_write Write = true
-is_write Read = false
+is_write _ = false
 
 -- how many requests pass a test, and whether one does
 abbrev pub count : (Request → Bool) → List Request → ℕ
@@ -22,15 +22,15 @@ any test (a ∷ xs) = test a || any test xs
 -- whether a request holds, and the turns and departures before it, none where it does
 abbrev pub holding : Standing → Bool
 holding Holds = true
-holding (Waits t d) = false
+holding _ = false
 
 abbrev pub turns_of : Standing → ℕ
-turns_of Holds = 0
 turns_of (Waits t d) = t
+turns_of _ = 0
 
 abbrev pub departures_of : Standing → ℕ
-departures_of Holds = 0
 departures_of (Waits t d) = d
+departures_of _ = 0
 
 abbrev pub holds : Request → Bool
 holds a = holding a.standing

@@ -27,7 +27,8 @@ pub record Lawful (t : Told) (r h : ℕ) (a : Request) : Type 0 where
   pub party : a.party < PARTIES
   pub known : knows t r a.mode ≡ true
   pub holding : holds a ≡ true → (turns a ≡ 0) × (departures a ≡ 0)
-  pub waiting : holds a ≡ false → (1 ≤ turns a) × (turns a ≤ t.limit r a.mode) × (1 ≤ departures a) × (departures a ≤ h)
+  pub waiting : holds a ≡ false
+      → (1 ≤ turns a) × (turns a ≤ t.limit r a.mode) × (1 ≤ departures a) × (departures a ≤ h)
 
 -- a resource at any time: each request is lawful, no more than k hold to write, and nobody holds to
 -- read beside those
@@ -36,7 +37,8 @@ pub record Sound (t : Told) (r : ℕ) (xs : List Request) : Type 0 where
   pub writers : count holds_write xs ≤ t.slots r
   pub apart : 1 ≤ count holds_write xs → count holds_read xs ≡ 0
 
--- a request of this party and mode is at the end, holding or waiting, and all others are as they were
+-- a request of this party and mode is at the end, holding or waiting, and all others are as they
+-- were
 pub record Added (p : ℕ) (m : Mode) (h : Bool) (old new : List Request) : Type 0 where
   pub request : Request
   pub list : new ≡ old ++ (request ∷ [])
@@ -50,14 +52,16 @@ pub record Stays (a b : Request) : Type 0 where
   pub party : b.party ≡ a.party
   pub mode : b.mode ≡ a.mode
   pub holding : holds a ≡ true → holds b ≡ true
-  pub waiting : holds a ≡ false → (holds b ≡ true) ⊎ (((turns b ≡ turns a) × (departures b + 1 ≡ departures a)) ⊎ (turns b < turns a))
+  pub waiting : holds a ≡ false
+      → (holds b ≡ true)
+      ⊎ (((turns b ≡ turns a) × (departures b + 1 ≡ departures a)) ⊎ (turns b < turns a))
 
 -- no other resource changes
 abbrev pub Others : Told → ℕ → Lists → Lists → Type 0
 Others t r old new = (q : ℕ) → q < t.resources → (q ≢ r) → new q ≡ old q
 
--- a request that is taken: every question is answered yes, it joins the list of its resource, and no
--- other resource changes
+-- a request that is taken: every question is answered yes, it joins the list of its resource, and
+-- no other resource changes
 pub record Joins (t : Told) (r p : ℕ) (m : Mode) (h : Bool) (old new : Lists) : Type 0 where
   pub asked : first_no (enter_questions t r p m (old r)) ≡ None
   pub added : Added p m h (old r) (new r)

@@ -5,3 +5,5 @@
 pub mod limits;
 /// The line of one resource.
 pub mod line;
+/// How long the lines are at most.
+pub mod size;

@@ -4,9 +4,11 @@ ghost use Rattle.bank.specs.Questions.{knows};
 ghost use Rattle.plan.specs.Of.{plan_contents};
 ghost use Rattle.text.specs.Memory.{Writes};
 ghost use Rattle.rules.specs.Limits.{wait_limit};
+ghost use Rattle.limits.specs.declared.size.TheConstants.{LIMITS_BYTES, LINE_BYTES};
 ghost use Rattle.limits.specs.Lines.{line_of, limits_text};
 
 use crate::line::push_line;
+use crate::size::LIMITS_BYTES;
 use bank::limit::ticks_of_turns;
 use bank::meaning::Bank;
 use bank::request::Mode;
@@ -31,11 +33,11 @@ fn wait_limit<B: Bank>(plan: &Plan, bank: &B, resource: u32, mode: Mode) -> Opti
 
 // The line of a resource, behind those before it.
 #[tactic(auto, using(crate::proofs::Sizes::line_size))]
-fn push_resource<B: Bank>(text: &mut ByteVec<1040>, plan: &Plan, bank: &B, resource: u32)
-    requires { (resource < (B.Bank.told bank.now).resources) × (length text.old + 65 ≤ 1040) }
+fn push_resource<B: Bank>(text: &mut ByteVec<LIMITS_BYTES>, plan: &Plan, bank: &B, resource: u32)
+    requires { (resource < (B.Bank.told bank.now).resources) × (length text.old + LINE_BYTES ≤ LIMITS_BYTES) }
     ensures text { text.new ≡ text.old
         ++ line_of (B.Bank.told bank.now) (plan_contents plan.now) resource }
-    ensures few { length text.new ≤ length text.old + 65 }
+    ensures few { length text.new ≤ length text.old + LINE_BYTES }
 {
     let write = wait_limit(plan, bank, resource, Mode::Write).unwrap();
     let read = wait_limit(plan, bank, resource, Mode::Read);
@@ -43,9 +45,9 @@ fn push_resource<B: Bank>(text: &mut ByteVec<1040>, plan: &Plan, bank: &B, resou
 }
 
 // The lines of all resources.
-fn limits_of<B: Bank>(plan: &Plan, bank: &B) -> ByteVec<1040>
+fn limits_of<B: Bank>(plan: &Plan, bank: &B) -> ByteVec<LIMITS_BYTES>
     ensures text { result ≡ limits_text (B.Bank.told bank.now) (plan_contents plan.now) }
-    ensures few { length result ≤ 1040 }
+    ensures few { length result ≤ LIMITS_BYTES }
 {
     let mut text = ByteVec::new();
     for resource in 0..bank.resources() {
@@ -58,8 +60,8 @@ fn limits_of<B: Bank>(plan: &Plan, bank: &B) -> ByteVec<1040>
 /// start of memory, and answers the size in bytes. 1,040 bytes are always enough; a text that does
 /// not fit is refused by 23.
 pub fn write_limits<B: Bank>(plan: &Plan, bank: &B, out: &mut [u8]) -> Result<usize, Refusal>
-    ensures fits { 1040 ≤ length out.old → is_ok result ≡ true }
-    ensures few { IfOk result (λ n. n ≤ 1040) }
+    ensures fits { LIMITS_BYTES ≤ length out.old → is_ok result ≡ true }
+    ensures few { IfOk result (λ n. n ≤ LIMITS_BYTES) }
     ensures writes { Writes out.old 0
         (limits_text (B.Bank.told bank.now) (plan_contents plan.now)) result out.new }
 {

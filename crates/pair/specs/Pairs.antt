@@ -28,8 +28,10 @@ abbrev pub pair_active : Told → Lists → Lists → Lists
 pair_active a first second = part a.resources first second
 
 -- an enter of a bank as if it had fewer seats, and what is known of it where it is taken
-pub record EntersWithin {X : Type 0} (b : Ghosts X) (seats r p : ℕ) (m : Mode) (result : Result Bool Refusal) (old new : X) : Type 0 where
+pub record EntersWithin {X : Type 0} (b : Ghosts X) (seats r p : ℕ) (m : Mode)
+    (result : Result Bool Refusal) (old new : X) : Type 0 where
   pub tells : b.told new ≡ b.told old
-  pub lists : Enters (record (b.told old) { seats = seats }) r p m result (b.active old) (b.active new)
+  pub lists : Enters (record (b.told old) { seats = seats }) r p m result
+      (b.active old) (b.active new)
   pub keeps : OnErr result (new ≡ old)
   pub exact : IfOk result (λ h. b.entered r p m (Ok h) old new)

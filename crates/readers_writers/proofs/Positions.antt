@@ -1,28 +1,17 @@
 -- What a search among entries tells.
-use Rattle.std.proofs.Common.{◌≡◌, ℕ, ◌+◌, ◌≤◌, Bool, true, false, cond, List, ◌++◌, length, take, remove, nat_lt, slice_index_or, append-nil, position, count_by, is_some, Some, None, Option, refl, sym, ap, ◌∙◌, arith}
+use Rattle.std.proofs.Common.{◌≡◌, ℕ, ◌+◌, ◌≤◌, Bool, true, false, cond, List, ◌++◌, length, take, remove, nat_lt, slice_index_or, append-nil, position, count_by, is_some, Some, None, refl, sym, ap, ◌∙◌, arith}
 use Rattle.std.proofs.lemmas.Bool.{ltb-false}
 use Rattle.std.proofs.lemmas.Bool.Decides.{nat_tests}
 use Rattle.std.proofs.lemmas.List.{take_all, drop_all}
 use Rattle.std.proofs.lemmas.List.Recursion.{is_position_or_len, is_count_by}
 use Rattle.std.specs.List.{position_or_len, refill}
 use Rattle.readers_writers.specs.Lines.{some, count_of, holder_of, mode_of, removed, passed, left, requests}
+use Rattle.bank.proofs.Searches.{found_by, missing_by, some_if}
 use Rattle.bank.specs.Lists.{is_holder}
 use Rattle.readers_writers.proofs.Requests.{holder_entry}
 use Rattle.readers_writers.specs.Places.{blank, place_of, parted}
 use Rattle.readers_writers.proofs.PlacesLemmas.{place_some, removed_at, mode_at}
 use Rattle.readers_writers.specs.declared.entry.Entry.{Entry}
-
-found_by : (b : Bool) (k i : ℕ) → ◌≡◌ {A = Option ℕ} (cond b (Some k) None) (Some i) → (b ≡ true) × (i ≡ k)
-found_by true k i e = (refl, cc)
-found_by false k i e = (cc, cc)
-
-missing_by : (b : Bool) (k : ℕ) → ◌≡◌ {A = Option ℕ} (cond b (Some k) None) None → b ≡ false
-missing_by true k e = cc
-missing_by false k e = refl
-
-some_if : (b : Bool) (k : ℕ) → is_some (cond {A = Option ℕ} b (Some k) None) ≡ b
-some_if true k = refl
-some_if false k = refl
 
 module _ (f : Entry → Bool) where
   place_or_len : (es : List Entry) → place_of f es ≡ position_or_len f es

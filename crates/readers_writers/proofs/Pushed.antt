@@ -7,7 +7,7 @@ use Rattle.readers_writers.specs.declared.entry.Entry.{Entry}
 
 -- an entry that holds
 abbrev pub held : Entry → Entry
-held e = record { party = e.party; mode = e.mode; holds = true }
+held e = record e { holds = true }
 
 module _ (f : Entry → Bool) where
   pub some_push : (es : List Entry) (x : Entry) → some f (es ++ (x ∷ [])) ≡ (some f es || f x)

@@ -51,17 +51,20 @@ mode_of p (e ∷ es) = cond (holder_of p e) e.mode (mode_of p es)
 -- all reads hold together; the first writer holds
 abbrev pub reads_hold : List Entry → List Entry
 reads_hold [] = []
-reads_hold (e ∷ es) = cond (is_writer e) e (record { party = e.party; mode = e.mode; holds = true }) ∷ reads_hold es
+reads_hold (e ∷ es) = cond (is_writer e) e (record e { holds = true }) ∷ reads_hold es
 
 abbrev pub writer_holds : List Entry → List Entry
 writer_holds [] = []
-writer_holds (e ∷ es) = cond (is_writer e) (record { party = e.party; mode = e.mode; holds = true } ∷ es) (e ∷ writer_holds es)
+writer_holds (e ∷ es) =
+    cond (is_writer e) (record e { holds = true } ∷ es) (e ∷ writer_holds es)
 
 -- what the others become when a holder of this mode has left: while one of them holds, they stay as
 -- they are. Behind a writer all reads that were collected go first, in one group; without any, or
 -- behind a read, the first writer goes
 abbrev pub passed : Mode → List Entry → List Entry
-passed m es = cond (some is_holder es) es (cond (is_write m && some collected es) (reads_hold es) (writer_holds es))
+passed m es =
+    cond (some is_holder es) es
+    (cond (is_write m && some collected es) (reads_hold es) (writer_holds es))
 
 abbrev pub left : List Entry → ℕ → List Entry
 left es p = passed (mode_of p es) (removed p es)
@@ -73,11 +76,14 @@ turns writing n Read = cond writing 1 2
 
 -- the entries as requests: whether a writer holds, how many hold, how many writers came before
 abbrev pub request_of : Bool → ℕ → ℕ → Entry → Request
-request_of writing h n e = cond e.holds (record { party = e.party; mode = e.mode; standing = Holds }) (record { party = e.party; mode = e.mode; standing = Waits (turns writing n e.mode) h })
+request_of writing h n e =
+    cond e.holds (record { party = e.party; mode = e.mode; standing = Holds })
+    (record { party = e.party; mode = e.mode; standing = Waits (turns writing n e.mode) h })
 
 abbrev pub requests_from : Bool → ℕ → ℕ → List Entry → List Request
 requests_from writing h n [] = []
-requests_from writing h n (e ∷ es) = request_of writing h n e ∷ requests_from writing h (n + cond (is_writer e) 1 0) es
+requests_from writing h n (e ∷ es) =
+    request_of writing h n e ∷ requests_from writing h (n + cond (is_writer e) 1 0) es
 
 -- the active requests
 abbrev pub requests : List Entry → List Request

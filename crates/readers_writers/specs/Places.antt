@@ -15,7 +15,7 @@ place_of test (e ∷ es) = cond (test e) 0 (place_of test es + 1)
 
 -- an entry with its read holding
 abbrev pub read_held : Entry → Entry
-read_held e = cond (is_writer e) e (record { party = e.party; mode = e.mode; holds = true })
+read_held e = cond (is_writer e) e (record e { holds = true })
 
 -- the entries once the one at a place is gone
 abbrev pub parted : List Entry → ℕ → List Entry

@@ -1,21 +1,10 @@
 -- What a search for a party tells.
-use Rattle.std.proofs.Common.{◌≡◌, ℕ, ◌+◌, ◌<◌, ◌≤◌, Bool, true, false, cond, List, length, nat_lt, nat_eq, position, is_some, Some, None, Option, refl, sym, ap, ◌∙◌, arith}
+use Rattle.std.proofs.Common.{◌≡◌, ℕ, ◌+◌, ◌<◌, ◌≤◌, cond, List, length, nat_lt, nat_eq, position, is_some, Some, None, refl, sym, ap, ◌∙◌, arith}
 use Rattle.std.proofs.lemmas.Bool.{ltb-true, ltb-false}
 use Rattle.std.proofs.lemmas.List.Recursion.{is_position_or_len}
 use Rattle.std.specs.List.{position_or_len}
+use Rattle.bank.proofs.Searches.{found_by, missing_by, some_if}
 use Rattle.slots.specs.Rows.{place}
-
-found_by : (b : Bool) (k i : ℕ) → ◌≡◌ {A = Option ℕ} (cond b (Some k) None) (Some i) → (b ≡ true) × (i ≡ k)
-found_by true k i e = (refl, cc)
-found_by false k i e = (cc, cc)
-
-missing_by : (b : Bool) (k : ℕ) → ◌≡◌ {A = Option ℕ} (cond b (Some k) None) None → b ≡ false
-missing_by true k e = cc
-missing_by false k e = refl
-
-some_if : (b : Bool) (k : ℕ) → is_some (cond {A = Option ℕ} b (Some k) None) ≡ b
-some_if true k = refl
-some_if false k = refl
 
 module _ (p : ℕ) where
   place_or_len : (ps : List ℕ) → place p ps ≡ position_or_len (λ q. nat_eq q p) ps

@@ -10,7 +10,9 @@ Held lines = length lines ≡ RESOURCES
 
 -- a line has as many parties as there are seats at most, and each party is one of those that may be
 abbrev pub Keeping : ℕ → Line → Type 0
-Keeping seats l = (length (row l) ≤ seats) × ((i : ℕ) → i < length (row l) → slice_index (row l) i < PARTIES)
+Keeping seats l =
+    (length (row l) ≤ seats)
+    × ((i : ℕ) → i < length (row l) → slice_index (row l) i < PARTIES)
 
 abbrev pub Kept : ℕ → List Line → Type 0
 Kept seats lines = (r : ℕ) → r < RESOURCES → Keeping seats (slice_index_or lines r bare)

@@ -15,7 +15,13 @@ line k parties = drop k parties
 -- before it, and every turn lets in k of them: it waits for the whole turns among these and one
 -- more, and each place within a turn is a departure later than the place before
 abbrev pub request_at : ℕ → ℕ → ℕ → Request
-request_at k i p = cond (nat_lt i k) (record { party = p; mode = Write; standing = Holds }) (record { party = p; mode = Write; standing = Waits ((i - k) / k + 1) ((i - k) % k + 1) })
+request_at k i p =
+    cond (nat_lt i k) (record { party = p; mode = Write; standing = Holds })
+    (record {
+      party = p;
+      mode = Write;
+      standing = Waits ((i - k) / k + 1) ((i - k) % k + 1);
+    })
 
 abbrev pub requests_from : ℕ → ℕ → List ℕ → List Request
 requests_from k i [] = []

@@ -80,7 +80,8 @@ pub record NextHolds (k at : ℕ) (old new : List ℕ) : Type 0 where
 -- a party that leaves is gone from its place
 pub record LeavesPlace (r p : ℕ) (old new : Slots) : Type 0 where
   pub parties : ChangesParties r (λ ps. remove ps (place p ps)) old new
-  pub next : NextHolds (holders_of old r) (place p (parties_of old r)) (parties_of old r) (parties_of new r)
+  pub next : NextHolds (holders_of old r) (place p (parties_of old r))
+      (parties_of old r) (parties_of new r)
 
 -- slots as a bank
 abbrev pub slots_ghosts : Ghosts Slots
