@@ -1,6 +1,6 @@
 -- The jobs before one, counted in a row and over all tasks.
-use Rattle.std.proofs.Common.{◌≡◌, ℕ, zero, suc, ◌+◌, ◌≤◌, Bool, true, false, cond, ◌&&◌, eqb, ltb, ◌⊎◌, List, [], ◌∷◌, length, take, drop, get_or, Some, None, Option, count_by, sym, refl, ap, ◌∙◌, inl, inr, ⊎_elim, arith}
-use Rattle.std.proofs.lemmas.Bool.{cases_eq, cond-false, le-ltb}
+use Rattle.std.proofs.Common.{◌≡◌, ℕ, zero, suc, ◌+◌, ◌≤◌, Bool, true, false, cond, ◌&&◌, eqb, ltb, ◌⊎◌, List, [], ◌∷◌, length, take, drop, Some, None, Option, count_by, sym, refl, ap, ◌∙◌, inl, inr, ⊎_elim, arith}
+use Rattle.std.proofs.lemmas.Bool.{cases_eq, and_left, cond-false, le-ltb}
 use Rattle.std.proofs.lemmas.Bool.Decides.{nat_tests}
 use Rattle.std.proofs.lemmas.List.{take-append-drop}
 use Rattle.std.proofs.lemmas.List.Elements.{filter_map-append}
@@ -9,13 +9,13 @@ use Rattle.std.specs.List.{filter_map, range_with_len}
 use Rattle.std.specs.Ordering.{is_lt, nat_cmp, ordering_then}
 use Rattle.order.specs.declared.elements.Job.{Job}
 use Rattle.plan.specs.Contents.{Contents}
-use Rattle.rules.specs.Jobs.{count_below}
+use Rattle.rules.specs.Jobs.{before, cluster_of, count_below, jobs_of}
 use Rattle.rules.specs.States.{idle_task}
 use Rattle.rules.specs.declared.task.State.TheVariants.{Idle}
 use Rattle.rules.specs.declared.task.Task.{Task}
 use Rattle.rules.proofs.Counts.{count_same}
 use Rattle.table.specs.Members.{members_of}
-use Rattle.table.specs.Rows.{tasks_in, without, selects, job_at, comes_before}
+use Rattle.table.specs.Rows.{tasks_in, without, selects, job_at}
 use Rattle.table.specs.declared.selection.Selection.{Selection}
 use Rattle.table.specs.declared.selection.Selection.TheVariants.{Unfinished, Ready, HeldBack}
 use Rattle.table.proofs.Rows.{past_end}
@@ -61,20 +61,18 @@ before_number true true x t n = grind (arith, nat_tests)
 before_number true false x t n = refl
 before_number false b x t n = refl
 
-pub jobs_counted : (p : Contents) (n : ℕ) (tasks : ℕ → Task) (which : Selection) (g release : ℕ) → n ≤ length p.tasks → ((q : ℕ) → n ≤ q → tasks q ≡ idle_task)
-    → count_by (λ y. job_before y (record { release = release; task = 0 })) (filter_map (job_at tasks which) (members_of p g)) ≡ count_below (comes_before p tasks which g release) n
-jobs_counted p n tasks which g release known idle =
-    let chosen : ℕ → Bool = λ t. selects which (tasks t).state in
-    let inside : ℕ → Bool = λ t. eqb (get_or p.tasks t 0) g in
-    let job : ℕ → Job = λ t. record { release = (tasks t).release; task = t } in
-    let first : Job → Bool = λ y. job_before y (record { release = release; task = 0 }) in
+pub jobs_counted : (p : Contents) (n : ℕ) (tasks : ℕ → Task) (which : Selection) (t : ℕ) → n ≤ length p.tasks → ((q : ℕ) → n ≤ q → tasks q ≡ idle_task)
+    → count_by (λ y. job_before y (record { release = (tasks t).release; task = 0 })) (filter_map (job_at tasks which) (members_of p (cluster_of p t))) ≡ before p n (jobs_of tasks) (λ u. selects which (tasks u).state) t
+jobs_counted p n tasks which t known idle =
+    let chosen : ℕ → Bool = λ u. selects which (tasks u).state in
+    let inside : ℕ → Bool = λ u. eqb (cluster_of p u) (cluster_of p t) in
+    let job : ℕ → Job = λ u. record { release = (tasks u).release; task = u } in
+    let first : Job → Bool = λ y. job_before y (record { release = (tasks t).release; task = 0 }) in
+    let test : ℕ → Bool = λ u. chosen u && (inside u && ltb (tasks u).release (tasks t).release) in
     ap (count_by first) (of_filter chosen inside job (range_with_len 0 (length p.tasks)))
-    ∙ (count_row (λ t. chosen t && inside t) job first (length p.tasks)
-    ∙ (count_same _ (comes_before p tasks which g release) (length p.tasks) (λ t lt. before_number (chosen t) (inside t) (tasks t).release t release)
-    ∙ count_past (comes_before p tasks which g release) n (length p.tasks) known none))
-  where
-    none : (k : ℕ) → n ≤ k → comes_before p tasks which g release k ≡ false
-    none k far = ap (λ (t : Task). selects which t.state && (eqb (get_or p.tasks k 0) g && ltb t.release release)) (idle k far) ∙ ap (λ b. b && (eqb (get_or p.tasks k 0) g && ltb 0 release)) (idle_unselected which)
+    ∙ (count_row (λ u. chosen u && inside u) job first (length p.tasks)
+    ∙ (count_same _ test (length p.tasks) (λ u lt. before_number (chosen u) (inside u) (tasks u).release u (tasks t).release)
+    ∙ count_past test n (length p.tasks) known (λ k far. and_left (chosen k) _ (ap (λ (x : Task). selects which x.state) (idle k far) ∙ idle_unselected which))))
 
 -- the jobs of a list of tasks, counted in two parts
 pub counted_parts : (P : Job → Bool) (h : ℕ → Option Job) (k : ℕ) (ts : List ℕ) (n before here rest : ℕ) → n ≡ before + count_by P (filter_map h ts) → here ≡ count_by P (filter_map h (take k ts)) → rest ≡ count_by P (filter_map h (drop k ts)) → n ≡ (before + here) + rest

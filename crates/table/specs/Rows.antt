@@ -1,10 +1,10 @@
 -- The jobs and holders of a table.
-use Rattle.std.specs.Prelude.{◌≡◌, ℕ, Bool, true, false, cond, not, ◌&&◌, List, Some, None, Option, ◌==◌, nat_le, nat_lt, slice_index_or}
+use Rattle.std.specs.Prelude.{◌≡◌, ℕ, Bool, true, false, cond, not, List, Some, None, Option, nat_le, nat_lt, slice_index_or}
 use Rattle.order.specs.declared.elements.Holder.{Holder}
 use Rattle.order.specs.declared.elements.Job.{Job}
 use Rattle.plan.specs.Contents.{Contents, length_at}
 use Rattle.rules.specs.Holders.{ticks_left}
-use Rattle.rules.specs.Jobs.{cluster_of, ended}
+use Rattle.rules.specs.Jobs.{ended}
 use Rattle.rules.specs.States.{is_idle, is_ready, is_held_back, is_holding, idle_task}
 use Rattle.rules.specs.declared.task.State.{State}
 use Rattle.rules.specs.declared.task.State.TheVariants.{Idle, Going, HeldBack as Held, Waiting, Holding}
@@ -31,12 +31,6 @@ abbrev pub job_at : (ℕ → Task) → Selection → ℕ → Option Job
 job_at tasks which q =
     cond (selects which (tasks q).state) (Some (record { release = (tasks q).release; task = q }))
     None
-
--- the job of a task is selected, of the cluster, and released before another
-abbrev pub comes_before : Contents → (ℕ → Task) → Selection → ℕ → ℕ → ℕ → Bool
-comes_before p tasks which g release q =
-    selects which (tasks q).state
-    && (cluster_of p q == g && nat_lt (tasks q).release release)
 
 -- n ticks are within a length that is declared
 abbrev pub is_within : ℕ → Option ℕ → Bool

@@ -2,8 +2,8 @@ ghost use Rattle.std.specs.Prelude.{◌≡◌, ℕ, ◌+◌, ◌<◌, ◌≤◌,
 ghost use Rattle.std.specs.List.{filter_map};
 ghost use Rattle.arrayvec.specs.ArrayVec.{array_vec_len};
 ghost use Rattle.plan.specs.Of.{plan_contents};
-ghost use Rattle.rules.specs.Jobs.{count_below, is_among_first, jobs_of, ranks, runs};
-ghost use Rattle.table.specs.Rows.{comes_before, job_at, selects};
+ghost use Rattle.rules.specs.Jobs.{before, jobs_of, ranks, runs, is_among_first};
+ghost use Rattle.table.specs.Rows.{job_at, selects};
 ghost use Rattle.table.specs.Tables.{records_of};
 
 use crate::selection::Selection;
@@ -55,15 +55,18 @@ impl Table<'_> {
         }
     }
 
-    // How many selected jobs of the cluster have smaller release numbers.
-    fn jobs_before(&self, which: Selection, cluster: u8, release: u32) -> usize
-        ensures { result ≡ count_below (comes_before (plan_contents self.now.plan.now)
-            (records_of self.now) which cluster release) self.now.tasks }
+    // How many selected jobs of its cluster come before that of a task.
+    fn jobs_before(&self, which: Selection, task: usize) -> usize
+        requires { task < self.now.tasks }
+        ensures { result ≡ before (plan_contents self.now.plan.now) self.now.tasks
+            (jobs_of (records_of self.now))
+            (λ u. selects which (records_of self.now u).state) task }
     {
+        let Task { release, .. } = self.task(task);
         // with task 0, so that no job of the same number comes before it
         let job = Job { release, task: 0 };
         let mut before = 0;
-        let mut rest = self.members_of(cluster);
+        let mut rest = self.members_of(self.cluster_of(task));
         // eight at a time, since a row is as dear to clear as it is long
         while !rest.is_empty() {
             let (tasks, others) = rest.split_at(rest.len().min(8));
@@ -81,10 +84,8 @@ impl Table<'_> {
             (jobs_of (records_of self.now))
             (λ u. selects which (records_of self.now u).state) task }
     {
-        let Task { state, release, .. } = self.task(task);
-        which.has(state)
-            && self.jobs_before(which, self.cluster_of(task), release)
-                < self.processors_for(task) as usize
+        let Task { state, .. } = self.task(task);
+        which.has(state) && self.jobs_before(which, task) < self.processors_for(task) as usize
     }
 
     /// Whether the job of a task is ready and runs: fewer ready jobs of its cluster were released

@@ -1,15 +1,13 @@
 use Rattle.std.proofs.Common.{◌≡◌, ◌≤◌, ◌+◌, count_by, length}
 use Rattle.std.specs.List.{filter_map}
 use Rattle.order.specs.declared.elements.Job.{Job}
-use Rattle.plan.specs.Of.{plan_contents}
-use Rattle.table.specs.Members.{members_of}
 use Rattle.table.specs.Rows.{job_at}
 use Rattle.table.specs.Tables.{records_of}
 use Rattle.table.proofs.Ranks.{job_before}
 use Rattle.table.proofs.table.Table.jobs_before.Given as goal
 
 abbrev pub invariant-loop-rest : goal.invariant-loop-rest
-invariant-loop-rest l = (count_by (λ (y : Job). job_before y l.job) (filter_map (job_at (records_of l.self) l.which) (members_of (plan_contents l.self.plan.now) l.cluster)) ≡ l.before + count_by (λ (y : Job). job_before y l.job) (filter_map (job_at (records_of l.self) l.which) l.rest)) × (l.before + length l.rest ≤ 64)
+invariant-loop-rest l = (count_by (λ (y : Job). job_before y l.job) (filter_map (job_at (records_of l.self) l.which) l.initial.rest) ≡ l.before + count_by (λ (y : Job). job_before y l.job) (filter_map (job_at (records_of l.self) l.which) l.rest)) × (l.before + length l.rest ≤ 64)
 
 abbrev pub decreases-loop-rest : goal.decreases-loop-rest
 decreases-loop-rest l = length l.rest
