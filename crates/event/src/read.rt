@@ -4,7 +4,7 @@ ghost use Rattle.event.specs.Lines.{mode_of, event_of_fields, read_event, IsLine
 
 use bank::request::Mode;
 use rules::call::Call;
-use text::field::{Field, read_fields};
+use text::field::{FIELDS, Field, read_fields};
 use text::refusal::Refusal;
 
 /// The most bytes of an event line, its newline included.
@@ -56,8 +56,9 @@ fn form(letter: u8, fields: &[Field]) -> Option<Call>
 fn parse(line: &[u8]) -> Option<Call>
     ensures { result ≡ read_event line.now }
 {
-    let (letter, fields) = read_fields(line)?;
-    form(letter, fields.as_slice())
+    let mut fields = [Field::Number(0); FIELDS];
+    let (letter, count) = read_fields(line, &mut fields)?;
+    form(letter, &fields[..count])
 }
 
 /// The call that a line with its newline is. A line that has none of the five forms is refused by

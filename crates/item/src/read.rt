@@ -2,7 +2,7 @@ ghost use Rattle.std.specs.Prelude.{◌≡◌};
 ghost use Rattle.item.specs.Lines.{item_of, read_item, ReadsItem};
 
 use crate::item::Item;
-use text::field::{Field, read_fields};
+use text::field::{FIELDS, Field, read_fields};
 use text::refusal::Refusal;
 
 // The item that a letter and fields are.
@@ -37,8 +37,9 @@ fn form(letter: u8, fields: &[Field]) -> Option<Item>
 fn read_item(line: &[u8]) -> Option<Item>
     ensures { result ≡ read_item line.now }
 {
-    let (letter, fields) = read_fields(line)?;
-    form(letter, fields.as_slice())
+    let mut fields = [Field::Number(0); FIELDS];
+    let (letter, count) = read_fields(line, &mut fields)?;
+    form(letter, &fields[..count])
 }
 
 impl TryFrom<&[u8]> for Item {

@@ -19,8 +19,8 @@ joined : (letter : ℕ) (fields : List Field) (field : Field) (o : Option (List 
 joined letter fields field None = refl
 joined letter fields field (Some fs) = ap (λ xs. Some (letter, xs)) (sym (append_assoc fields (field ∷ []) fs))
 
-pub found_none : (line : List ℕ) (letter : ℕ) (rest : List ℕ) → line ≡ letter ∷ rest → Found line letter rest []
-found_none line letter rest e = record {
+pub found_none : (line : List ℕ) (letter : ℕ) (rest : List ℕ) (fields : List Field) → line ≡ letter ∷ rest → fields ≡ [] → Found line letter rest fields
+found_none line letter rest fields e n = rw n record {
   whole = λ k l. let n : k ≡ FIELDS = omega arith in ap fields_of e ∙ ap (λ j. behind letter [] (fields_in j rest)) (sym n);
   few = omega arith;
 }

@@ -1,8 +1,7 @@
-ghost use Rattle.std.specs.Prelude.{◌≡◌, ◌≤◌, ◌<◌, length, option_map};
+ghost use Rattle.std.specs.Prelude.{◌≡◌, ◌≤◌, take, option_map, IfSome};
 ghost use Rattle.text.specs.Fields.{read_field, is_newline, fields_of, HasFields};
 
 use crate::number::read_number;
-use arrayvec::ArrayVec;
 
 /// A field of a line, behind its comma.
 #[derive(Clone, Copy, Debug, PartialEq, Eq)]
@@ -11,12 +10,6 @@ pub enum Field {
     Number(u32),
     /// A letter from `A` to `Z`.
     Letter(u8),
-}
-
-impl Default for Field {
-    fn default() -> Self {
-        Field::Number(0)
-    }
 }
 
 /// The most fields of a line.
@@ -45,22 +38,27 @@ fn is_newline(s: &[u8]) -> bool
     matches!(s, [b'\n'])
 }
 
-/// The letter and the fields of a line, its newline included.
-#[tactic(auto, using(crate::proofs::Fields::found_none, crate::proofs::Images::has_fields))]
+/// The letter of a line, its newline included, and how many fields it has. They are put at the start
+/// of the memory that is lent.
+// The memory is lent, and what reads a line is inlined, so that no line pays for fields that are
+// moved.
 #[inline(always)]
-pub fn read_fields(line: &[u8]) -> Option<(u8, ArrayVec<Field, FIELDS>)>
-    ensures read { fields_of line.now ≡ option_map (λ p. (p.0, p.1.items)) result }
+#[tactic(auto, using(crate::proofs::Images::has_fields))]
+pub fn read_fields(line: &[u8], fields: &mut [Field; FIELDS]) -> Option<(u8, usize)>
+    ensures read { fields_of line.now ≡ option_map (λ p. (p.0, take p.1 fields.new)) result }
+    ensures within { IfSome result (λ p. p.1 ≤ FIELDS) }
     ensures image { HasFields line.now (fields_of line.now) }
 {
     let (letter, mut rest) = line.split_first()?;
-    let mut fields = ArrayVec::new();
+    let mut count = 0;
     while !is_newline(rest) {
-        if fields.is_full() {
+        if count == FIELDS {
             return None;
         }
         let (field, behind) = read_field(rest)?;
-        fields.push(field);
+        fields[count] = field;
+        count += 1;
         rest = behind;
     }
-    Some((*letter, fields))
+    Some((*letter, count))
 }
