@@ -1,3 +1,4 @@
+pub mod ByKind
 pub mod Bytes
 pub mod Fits
 pub mod Fronts

@@ -11,6 +11,7 @@ use Rattle.plan.specs.Contents.{Contents, processors}
 use Rattle.plan_text.specs.Texts.{read_text}
 use Rattle.slots.specs.Lines.{requests, turn_limit}
 use Rattle.slots.specs.Slots.{holders_of, parties_of, told_of, active_of, slots_ghosts, MadeFrom}
+use Rattle.slots.specs.Planned.{slots_of}
 use Rattle.slots.specs.Rows.{place}
 use Rattle.slots.specs.declared.slots.Slots.{Slots}
 use Rattle.examples.specs.Banks.{SlotsWork}
@@ -95,7 +96,7 @@ works m k ps s (leaves p xs ∷ steps) st g = (
 )
 
 -- a bank just made from a plan with one slot resource
-made : (c : Contents) (m k : ℕ) (s : Slots) → processors c ≡ m → c.slots ≡ k ∷ [] → MadeFrom c s → Stands m k [] s
+made : (c : Contents) (m k : ℕ) (s : Slots) → processors c ≡ m → slots_of c.resources ≡ k ∷ [] → MadeFrom c s → Stands m k [] s
 made c m k s seats slots d =
     record {
       resources = ap (λ (x : Told). x.resources) d.told ∙ ap length slots;
@@ -104,7 +105,7 @@ made c m k s seats slots d =
       parties = d.nobody 0;
     }
 
-pub slots_work : (text : List ℕ) (c : Contents) (m k turns : ℕ) (steps : List Step) → read_text text ≡ Ok c → processors c ≡ m → c.slots ≡ k ∷ [] → turn_limit m k ≡ turns → Goes m k [] steps → SlotsWork text c m k turns steps
+pub slots_work : (text : List ℕ) (c : Contents) (m k turns : ℕ) (steps : List Step) → read_text text ≡ Ok c → processors c ≡ m → slots_of c.resources ≡ k ∷ [] → turn_limit m k ≡ turns → Goes m k [] steps → SlotsWork text c m k turns steps
 slots_work text c m k turns steps accepted seats slots e g = (
   accepted,
   λ s d.

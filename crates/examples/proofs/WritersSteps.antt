@@ -11,7 +11,7 @@ use Rattle.plan.specs.Contents.{Contents, processors}
 use Rattle.plan_text.specs.Texts.{read_text}
 use Rattle.readers_writers.specs.ReadersWriters.{told_of, active_of, entries_of, writers_ghosts}
 use Rattle.readers_writers.specs.Lines.{admits, entered as entered_list, left as left_list, requests, turn_limit}
-use Rattle.readers_writers.specs.Told.{told_with}
+use Rattle.readers_writers.specs.Told.{reader_writers_of, told_with}
 use Rattle.readers_writers.specs.declared.entry.Entry.{Entry}
 use Rattle.readers_writers.specs.declared.lines.ReadersWriters.{ReadersWriters}
 use Rattle.examples.specs.Banks.{WritersWork}
@@ -87,7 +87,7 @@ works m es b (leaves p xs ∷ steps) st g = (
   λ a d e. let r = left m es b st d p a g.0 e in (r.0, active m (left_list es p) d r.1 ∙ g.1, works m (left_list es p) d steps r.1 g.2),
 )
 
-pub writers_work : (text : List ℕ) (c : Contents) (m w r : ℕ) (steps : List Step) → read_text text ≡ Ok c → processors c ≡ m → c.reader_writers ≡ 1 → turn_limit m Write ≡ w → turn_limit m Read ≡ r → Goes m [] steps → WritersWork text c m w r steps
+pub writers_work : (text : List ℕ) (c : Contents) (m w r : ℕ) (steps : List Step) → read_text text ≡ Ok c → processors c ≡ m → reader_writers_of c.resources ≡ 1 → turn_limit m Write ≡ w → turn_limit m Read ≡ r → Goes m [] steps → WritersWork text c m w r steps
 writers_work text c m w r steps accepted e one write_turns read_turns g = (
   accepted,
   λ b made.

@@ -7,6 +7,7 @@ use Rattle.bank.specs.declared.request.Request.{Request}
 use Rattle.item.specs.Lines.{read_item}
 use Rattle.plan.specs.Adding.{empty, line_questions}
 use Rattle.plan.specs.Contents.{Contents}
+use Rattle.plan.specs.declared.resource.Resource.TheVariants.{Slots, ReaderWriter}
 use Rattle.plan_text.specs.Texts.{read_text}
 use Rattle.text.specs.Questions.{first_no}
 use Rattle.examples.specs.Banks.{SlotsWork, WritersWork}
@@ -35,7 +36,7 @@ slots_text = codes "C,5\nS,2\nT,0\n"
 
 abbrev pub slots_plan : Contents
 slots_plan =
-    record { clusters = 5 ∷ []; slots = 2 ∷ []; reader_writers = 0; tasks = 0 ∷ []; lengths = [] }
+    record { clusters = 5 ∷ []; resources = Slots 2 ∷ []; tasks = 0 ∷ []; lengths = [] }
 
 abbrev pub two_hold : List Request
 two_hold = holder 0 Write ∷ holder 1 Write ∷ []
@@ -66,7 +67,7 @@ writers_text = codes "C,3\nW\nT,0\n"
 
 abbrev pub writers_plan : Contents
 writers_plan =
-    record { clusters = 3 ∷ []; slots = []; reader_writers = 1; tasks = 0 ∷ []; lengths = [] }
+    record { clusters = 3 ∷ []; resources = ReaderWriter ∷ []; tasks = 0 ∷ []; lengths = [] }
 
 -- 0 reads, 1 writes, 2 reads
 abbrev pub mixed : List Step

@@ -6,6 +6,7 @@ use Rattle.bank.specs.declared.request.Mode.TheVariants.{Write}
 use Rattle.bank.specs.declared.request.Request.{Request}
 use Rattle.bank.specs.Limits.{ticks_of_turns}
 use Rattle.plan.specs.Contents.{Contents, longest_at}
+use Rattle.plan.specs.declared.resource.Resource.TheVariants.{Slots}
 use Rattle.rules.specs.Answers.{released, asked, gave, finished, ticked, Answered}
 use Rattle.rules.specs.Histories.{History, made, called, lists, job, wanted, issued, holding}
 use Rattle.rules.specs.Histories.{waiting, state, used, waited, job_waited, blocked_ticks_of}
@@ -30,8 +31,7 @@ abbrev pub plan : Contents
 plan =
     record {
       clusters = 2 ∷ [];
-      slots = 1 ∷ [];
-      reader_writers = 0;
+      resources = Slots 1 ∷ [];
       tasks = 0 ∷ 0 ∷ 0 ∷ [];
       lengths =
           record { task = 0; resource = 0; ticks = 2 }

@@ -3,7 +3,7 @@ use Rattle.std.proofs.Common.{◌≡◌, ℕ, zero, suc, ◌<◌, ◌≤◌, tru
 use Rattle.std.proofs.lemmas.Bool.{and_parts, and_right, cases_lt, cond-true, cond-false, le-ltb, lt-ltb, ltb-true, ne_eqb}
 use Rattle.std.specs.List.{AllByRecursion}
 use Rattle.plan.specs.Adding.{in_limits}
-use Rattle.plan.specs.Contents.{Declared, Contents, greatest, length_at, length_in, length_item, longest_at, longest_of, resource_count}
+use Rattle.plan.specs.Contents.{Declared, Contents, entry_of, greatest, length_at, length_in, length_item, longest_at, longest_of, resource_count}
 use Rattle.plan.specs.Of.{plan_contents}
 use Rattle.plan.specs.declared.plan.Plan.{Plan}
 use Rattle.plan.proofs.Lawful.{lawful}
@@ -13,7 +13,7 @@ greatest_zero f zero all = refl
 greatest_zero f (suc n) all = rw (greatest_zero f n all, all n) refl
 
 module _ (c : Contents) (t r : ℕ) (past : resource_count c ≤ r) where
-  undeclared : (ds : List Declared) → AllByRecursion (λ d. in_limits c (length_item d) ≡ true) ds → length_in ds t r ≡ None
+  undeclared : (ds : List Declared) → AllByRecursion (λ d. in_limits c (entry_of (length_item d)) ≡ true) ds → length_in ds t r ≡ None
   undeclared [] all = refl
   undeclared (d ∷ ds) all =
       let parts = and_parts (ltb d.task (length c.tasks)) _ all.0 in

@@ -5,14 +5,17 @@ use Rattle.std.proofs.ByRecursion.{All-from_get_or}
 use Rattle.std.proofs.lemmas.Bool.{cases_lt}
 use Rattle.std.proofs.lemmas.Bool.Decides.{nat_tests}
 use Rattle.std.proofs.lemmas.List.Elements.{All-from_recursion}
+use Rattle.std.proofs.lemmas.List.Sums.{AllPass-from_list_all}
 use Rattle.plan.specs.Adding.{below}
 use Rattle.plan.specs.Contents.{Declared}
 use Rattle.plan.specs.KeepsLimits.{From, IsLengthIn, Rises, IsOtherPair, KeepsLimits}
+use Rattle.plan.specs.Kinds.{in_kind_limits}
 use Rattle.plan.specs.Limits.{Between}
 use Rattle.plan.specs.Of.{placed, declared, contents_of, plan_contents}
 use Rattle.plan.specs.declared.plan.Plan.{Plan}
 use Rattle.plan.specs.declared.tables.Tables.{Tables}
 use Rattle.plan.proofs.Grid.{Rising, declared_rising, declared_all}
+use Rattle.plan.proofs.ByKind.{kinds_rise}
 
 -- from each entry of a table to all
 entries : (P : ℕ → Type 0) (low high : ℕ) (xs : List ℕ) → Between low high xs → ((x : ℕ) → low ≤ x → x < high → P x) → All P xs
@@ -30,7 +33,7 @@ rising_pairs (x ∷ xs) h (suc i) (suc j) d l m = rising_pairs xs h.1 i j d (ome
 other_pair : (d e : Declared) → Rises d e → IsOtherPair d e
 other_pair d e r t s = ⊎_elim (λ l. omega arith) (λ p. omega (arith, p.1)) r
 
-pub tables_keep : (t : Tables) → 0 < length t.clusters → 0 < length t.slots + t.reader_writers → 0 < length t.tasks → KeepsLimits (contents_of t)
+pub tables_keep : (t : Tables) → 0 < length t.clusters → 0 < length t.resources → 0 < length t.tasks → KeepsLimits (contents_of t)
 tables_keep t cluster resource task =
     let ds = declared 0 t.lengths in
     let rising = rising_pairs ds (declared_rising 0 t.lengths) in
@@ -39,8 +42,9 @@ tables_keep t cluster resource task =
     record {
       clusters = (cluster, t.few_clusters);
       processors_of = entries (From 1 8) 1 9 t.clusters t.clusters_sized (λ x a b. (a, omega arith));
-      resources = (resource, t.resources_held);
-      holders_of = entries (From 1 (sum t.clusters)) 1 (sum t.clusters + 1) t.slots t.slots_sized (λ x a b. (a, omega arith));
+      resources = (resource, t.few_resources);
+      kinds = AllPass-from_list_all (in_kind_limits (sum t.clusters)) t.resources t.kinds_in_limits;
+      by_kind = kinds_rise t.resources t.resources_by_kind;
       tasks = (task, t.few_tasks);
       cluster_of = entries (λ g. g < length t.clusters) 0 (length t.clusters) t.tasks t.tasks_placed (λ x a b. b);
       lengths = All-from_recursion _ ds (declared_all (IsLengthIn (contents_of t)) 0 t.lengths placed_in);

@@ -1,4 +1,6 @@
 pub mod Adding
+pub mod ByKind
+pub mod Filling
 pub mod Grid
 pub mod KeepsLimits
 pub mod Lawful

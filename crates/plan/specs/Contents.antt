@@ -1,9 +1,14 @@
 -- What a plan says.
 use Rattle.std.specs.Prelude.{ℕ, zero, suc, ◌+◌, max, cond, ◌&&◌, List, [], ◌∷◌}
-use Rattle.std.specs.Prelude.{◌++◌, map, length, replicate, Some, None, sum, Option, ◌==◌, nat_lt, slice_index}
+use Rattle.std.specs.Prelude.{◌++◌, map, length, Some, None, sum, Option, ◌==◌, nat_lt}
+use Rattle.std.specs.List.{slice_get}
 use Rattle.std.specs.Option.{unwrap_or}
 use Rattle.item.specs.declared.item.Item.{Item}
 use Rattle.item.specs.declared.item.Item.TheVariants.{Cluster, Slots, ReaderWriter, Task, Length}
+use Rattle.plan.specs.Kinds.{resource_item}
+use Rattle.plan.specs.declared.entry.Entry.{Entry}
+use Rattle.plan.specs.declared.entry.Entry.TheVariants.{Cluster as ClusterEntry, Resource as ResourceEntry}
+use Rattle.plan.specs.declared.entry.Entry.TheVariants.{Task as TaskEntry, Length as LengthEntry}
 use Rattle.plan.specs.declared.resource.Resource.{Resource}
 use Rattle.plan.specs.declared.resource.Resource.TheVariants.{Slots as SlotsFor, ReaderWriter as OneWriter}
 
@@ -16,10 +21,8 @@ pub record Declared : Type 0 where
 pub record Contents : Type 0 where
   -- the processors of each cluster
   pub clusters : List ℕ
-  -- the holders of each slot resource; these are the first resources
-  pub slots : List ℕ
-  -- how many reader-writer resources follow them
-  pub reader_writers : ℕ
+  -- the resources, by kind
+  pub resources : List Resource
   -- the cluster of each task
   pub tasks : List ℕ
   pub lengths : List Declared
@@ -27,24 +30,18 @@ pub record Contents : Type 0 where
 -- `C,1` `S,1` `T,0`: what a place for a plan holds at first
 abbrev pub smallest : Contents
 smallest =
-    record { clusters = 1 ∷ []; slots = 1 ∷ []; reader_writers = 0; tasks = 0 ∷ []; lengths = [] }
+    record { clusters = 1 ∷ []; resources = SlotsFor 1 ∷ []; tasks = 0 ∷ []; lengths = [] }
 
 -- m, the processors of all clusters
 abbrev pub processors : Contents → ℕ
 processors c = sum c.clusters
 
 abbrev pub resource_count : Contents → ℕ
-resource_count c = length c.slots + c.reader_writers
+resource_count c = length c.resources
 
--- the entry at a place of a row, if there is one
-abbrev pub entry_at : List ℕ → ℕ → Option ℕ
-entry_at xs i = cond (nat_lt i (length xs)) (Some (slice_index xs i)) None
-
--- the kind of a resource, if it exists
+-- a resource, if it exists
 abbrev pub resource_at : Contents → ℕ → Option Resource
-resource_at c r =
-    cond (nat_lt r (length c.slots)) (Some (SlotsFor (slice_index c.slots r)))
-    (cond (nat_lt r (resource_count c)) (Some OneWriter) None)
+resource_at c r = slice_get c.resources r
 
 -- the length of a task at a resource, if one is declared
 abbrev pub length_in : List Declared → ℕ → ℕ → Option ℕ
@@ -74,7 +71,14 @@ length_item d = Length d.task d.resource d.ticks
 abbrev pub items_of : Contents → List Item
 items_of c =
     map Cluster c.clusters
-    ++ (map Slots c.slots
-    ++ (replicate c.reader_writers ReaderWriter
+    ++ (map resource_item c.resources
     ++ (map Task c.tasks
-    ++ map length_item c.lengths)))
+    ++ map length_item c.lengths))
+
+-- what an item puts into the tables
+abbrev pub entry_of : Item → Entry
+entry_of (Cluster n) = ClusterEntry n
+entry_of (Slots k) = ResourceEntry (SlotsFor k)
+entry_of ReaderWriter = ResourceEntry OneWriter
+entry_of (Task g) = TaskEntry g
+entry_of (Length t r n) = LengthEntry t r n

@@ -1,6 +1,7 @@
 -- The limits of a plan, in the words of what it says.
-use Rattle.std.specs.Prelude.{◌≡◌, ℕ, ◌<◌, ◌≤◌, ◌≢◌, ◌⊎◌, All, AllPairs, length}
+use Rattle.std.specs.Prelude.{◌≡◌, IsTrue, ℕ, ◌<◌, ◌≤◌, ◌≢◌, ◌⊎◌, All, AllPairs, length}
 use Rattle.plan.specs.Contents.{Declared, Contents, processors, resource_count}
+use Rattle.plan.specs.Kinds.{in_kind_limits, kind_rank}
 
 -- n lies from low to high, both included
 abbrev pub From : ℕ → ℕ → ℕ → Type 0
@@ -21,9 +22,10 @@ pub record KeepsLimits (c : Contents) : Type 0 where
   -- 1 to 8 clusters, each of 1 to 8 processors
   pub clusters : From 1 8 (length c.clusters)
   pub processors_of : All (From 1 8) c.clusters
-  -- 1 to 16 resources; a slot resource is for 1 to m holders, m the processors of all clusters
+  -- 1 to 16 resources, each in the limits of its kind; they stand by kind
   pub resources : From 1 16 (resource_count c)
-  pub holders_of : All (From 1 (processors c)) c.slots
+  pub kinds : All (λ r. IsTrue (in_kind_limits (processors c) r)) c.resources
+  pub by_kind : AllPairs (λ r s. kind_rank r ≤ kind_rank s) c.resources
   -- 1 to 64 tasks, each of a cluster that exists
   pub tasks : From 1 64 (length c.tasks)
   pub cluster_of : All (λ g. g < length c.clusters) c.tasks

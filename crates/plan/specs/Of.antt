@@ -17,8 +17,7 @@ abbrev pub contents_of : Tables → Contents
 contents_of t =
     record {
       clusters = t.clusters;
-      slots = t.slots;
-      reader_writers = t.reader_writers;
+      resources = t.resources;
       tasks = t.tasks;
       lengths = declared 0 t.lengths;
     }

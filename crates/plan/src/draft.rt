@@ -83,7 +83,7 @@ impl Draft {
         ensures seals { Seals self tables.now into.old result into.new }
         ensures limits { KeepsLimits (plan_contents into.new) }
     {
-        if tables.clusters.len() == 0 || tables.resources() == 0 || tables.tasks.len() == 0 {
+        if tables.clusters.len() == 0 || tables.resources.len() == 0 || tables.tasks.len() == 0 {
             let refusal = Refusal::Incomplete;
             let line = self.next;
             return Err((self, Refused { refusal, line }));

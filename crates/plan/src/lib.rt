@@ -3,9 +3,13 @@
 
 /// A plan in the making.
 pub mod draft;
+/// What an item puts into the tables.
+pub mod entry;
 /// The sealed plan and its questions.
 pub mod plan;
-/// The two kinds of resources.
+/// The kinds of resources.
 pub mod resource;
+/// A table of resources.
+pub mod resources;
 /// The tables of a plan, and how a line is added to them.
 pub mod tables;

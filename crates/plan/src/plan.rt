@@ -8,7 +8,7 @@ use crate::tables::Tables;
 pub struct Plan {
     pub(crate) tables: Tables,
     ghost has_cluster: { 0 < length tables.clusters },
-    ghost has_resource: { 0 < length tables.slots + tables.reader_writers },
+    ghost has_resource: { 0 < length tables.resources },
     ghost has_task: { 0 < length tables.tasks },
 }
 

@@ -7,13 +7,16 @@ use Rattle.item.specs.Lines.{item_text, read_item, Writable, IsLineOf}
 use Rattle.item.specs.declared.item.Item.{Item}
 use Rattle.item.specs.declared.item.Item.TheVariants.{Cluster, Slots, ReaderWriter, Task}
 use Rattle.item.proofs.Lines.{read_back, is_line_of, item_line}
-use Rattle.plan.specs.Adding.{empty, added, within, in_limits, item_questions, line_questions, seal_questions}
-use Rattle.plan.specs.Contents.{Declared, Contents, processors, resource_count, length_item, items_of}
+use Rattle.plan.specs.Adding.{empty, added, in_limits, item_questions, line_questions, seal_questions}
+use Rattle.plan.specs.Contents.{Declared, Contents, entry_of, processors, resource_count, length_item, items_of}
+use Rattle.plan.specs.Kinds.{in_kind_limits, resource_item, within}
 use Rattle.plan.specs.Of.{plan_contents}
 use Rattle.plan.specs.declared.draft.Refused.{Refused}
 use Rattle.plan.specs.declared.plan.Plan.{Plan}
+use Rattle.plan.specs.declared.resource.Resource.{Resource}
+use Rattle.plan.specs.declared.resource.Resource.TheVariants.{Slots as SlotsFor, ReaderWriter as OneWriter}
 use Rattle.plan.proofs.Adding.{passes}
-use Rattle.plan.proofs.Lawful.{Lawful, lawful, plan_complete}
+use Rattle.plan.proofs.Lawful.{Lawful, each_kind, lawful, plan_complete}
 use Rattle.plan.proofs.Same.{same_plans}
 use Rattle.text.specs.Lines.{lines_of, join_first}
 use Rattle.text.specs.Questions.{first_no}
@@ -40,7 +43,7 @@ joined_append f (x ∷ xs) ys = ap (λ zs. f x ++ zs) (joined_append f xs ys) �
 
 -- a taken line is put behind the text
 text_added : (c : Contents) (i : Item) → first_no (item_questions c i) ≡ None → plan_text (added c i) ≡ plan_text c ++ item_text i
-text_added c i e = ap (flat_map item_text) (items_added c i (passes c i e).0) ∙ (joined_append item_text (items_of c) (i ∷ []) ∙ ap (λ ys. plan_text c ++ ys) (append-nil (item_text i)))
+text_added c i e = ap (flat_map item_text) (items_added c i (passes c (entry_of i) e).0) ∙ (joined_append item_text (items_of c) (i ∷ []) ∙ ap (λ ys. plan_text c ++ ys) (append-nil (item_text i)))
 
 no_value : {A B : Type 0} (b : B) (a : A) → Err b ≡ Ok a → ⊥
 no_value {A} {B} b a e = let z : ◌≡◌ {A = ℕ} 0 1 = cc in omega arith
@@ -87,29 +90,25 @@ module _ (c : Contents) (law : Lawful c) where
   small_cluster : (n : ℕ) → within 1 8 n ≡ true → Writable (Cluster n)
   small_cluster n e = (omega (arith, leb-true n 8 (and_parts _ _ e).1), tt)
 
-  small_slots : (k : ℕ) → within 1 (processors c) k ≡ true → Writable (Slots k)
-  small_slots k e = (omega (arith, leb-true k (processors c) (and_parts _ _ e).1), tt)
+  small_resource : (r : Resource) → in_kind_limits (processors c) r ≡ true → Writable (resource_item r)
+  small_resource (SlotsFor k) e = (omega (arith, leb-true k (processors c) (and_parts _ _ e).1, law.few_processors), tt)
+  small_resource OneWriter e = tt
 
   small_task : (g : ℕ) → ltb g (length c.clusters) ≡ true → Writable (Task g)
   small_task g e = (omega (arith, ltb-true g (length c.clusters) e), tt)
 
-  small_length : (d : Declared) → in_limits c (length_item d) ≡ true → Writable (length_item d)
+  small_length : (d : Declared) → in_limits c (entry_of (length_item d)) ≡ true → Writable (length_item d)
   small_length d e =
       let a = and_parts (ltb d.task (length c.tasks)) _ e in
       let b = and_parts (ltb d.resource (resource_count c)) _ a.1 in
       (omega (arith, ltb-true d.task (length c.tasks) a.0), (omega (arith, ltb-true d.resource (resource_count c) b.0), (omega (arith, leb-true d.ticks 10000 (and_parts _ _ b.1).1), tt)))
 
-  all_replicate : (n : ℕ) → AllByRecursion Writable (replicate n ReaderWriter)
-  all_replicate zero = tt
-  all_replicate (suc n) = (tt, all_replicate n)
-
   pub all_writable : AllByRecursion Writable (items_of c)
   all_writable =
       All-append Writable _ _ (All-map Writable Cluster c.clusters (All-weaker _ _ small_cluster c.clusters law.clusters))
-      (All-append Writable _ _ (All-map Writable Slots c.slots (All-weaker _ _ small_slots c.slots law.slots))
-      (All-append Writable _ _ (all_replicate c.reader_writers)
+      (All-append Writable _ _ (All-map Writable resource_item c.resources (All-weaker _ _ small_resource c.resources (each_kind c law)))
       (All-append Writable _ _ (All-map Writable Task c.tasks (All-weaker _ _ small_task c.tasks law.tasks))
-      (All-map Writable length_item c.lengths (All-weaker _ _ small_length c.lengths law.lengths)))))
+      (All-map Writable length_item c.lengths (All-weaker _ _ small_length c.lengths law.lengths))))
 
 pub text_accepted : (p : Plan) → ReadsBack p
 text_accepted p = let law = lawful p.tables in ap (judge empty 1) (items_lines (items_of (plan_contents p)) (all_writable (plan_contents p) law)) ∙ items_accepted (plan_contents p) law (plan_complete p)

@@ -1,15 +1,21 @@
 -- A row of items in order and what they say are each other's image.
 use Rattle.std.proofs.Common.{◌≡◌, ℕ, zero, suc, ◌+◌, ◌<◌, true, ◌&&◌, eqb, ltb, List, [], ◌∷◌, ◌++◌, map, length, replicate, Some, None, Ok, Option, sym, refl, ap, ◌∙◌, subst, append_assoc, append-nil, arith, length-append}
+use Rattle.std.specs.Prelude.{IsTrue}
 use Rattle.std.specs.List.{ContainsAt as Has, AllByRecursion}
 use Rattle.std.proofs.ByRecursion.{all-has, has_append_right, has_get_or}
 use Rattle.std.proofs.lemmas.List.{map-append, map_push, length_push, length-replicate, nil_from_length, replicate_more}
-use Rattle.std.proofs.lemmas.Bool.{and_parts, eqb-true, lt-ltb}
+use Rattle.std.proofs.lemmas.Bool.{and_from, and_parts, eqb-true, lt-ltb}
 use Rattle.item.specs.declared.item.Item.{Item}
 use Rattle.item.specs.declared.item.Item.TheVariants.{Cluster, Slots, ReaderWriter, Task, Length}
-use Rattle.plan.specs.Adding.{empty, added, none, within, in_order, in_limits, has_room, complete, line_questions}
-use Rattle.plan.specs.Contents.{Declared, Contents, processors, length_item, items_of}
+use Rattle.plan.specs.Adding.{empty, added, entered, none, in_order, in_limits, has_room, complete, line_questions}
+use Rattle.plan.specs.Contents.{Declared, Contents, entry_of, processors, length_item, items_of}
+use Rattle.plan.specs.Kinds.{by_kind, in_kind_limits, none_later, resource_item, within}
+use Rattle.plan.specs.declared.entry.Entry.TheVariants.{Resource as ResourceEntry}
+use Rattle.plan.specs.declared.resource.Resource.{Resource}
+use Rattle.plan.specs.declared.resource.Resource.TheVariants.{Slots as SlotsFor, ReaderWriter as OneWriter}
+use Rattle.plan.proofs.ByKind.{by_kind_front, entry_of_resource}
 use Rattle.plan.proofs.Grid.{Rising, above_front}
-use Rattle.plan.proofs.Lawful.{Lawful}
+use Rattle.plan.proofs.Lawful.{Lawful, each_kind}
 use Rattle.text.specs.Questions.{first_no}
 use Rattle.plan_text.specs.Texts.{decide, judge}
 
@@ -26,11 +32,8 @@ none_nil xs e = nil_from_length xs (eqb-true (length xs) 0 e)
 abbrev from_tasks : Contents → List Item
 from_tasks c = map Task c.tasks ++ map length_item c.lengths
 
-abbrev from_reader_writers : Contents → List Item
-from_reader_writers c = replicate c.reader_writers ReaderWriter ++ from_tasks c
-
-abbrev from_slots : Contents → List Item
-from_slots c = map Slots c.slots ++ from_reader_writers c
+abbrev from_resources : Contents → List Item
+from_resources c = map resource_item c.resources ++ from_tasks c
 
 no_lengths : (c : Contents) → none c.lengths ≡ true → map length_item c.lengths ≡ []
 no_lengths c e = ap (map length_item) (none_nil c.lengths e)
@@ -38,37 +41,34 @@ no_lengths c e = ap (map length_item) (none_nil c.lengths e)
 no_tasks : (c : Contents) → (none c.tasks && none c.lengths) ≡ true → from_tasks c ≡ []
 no_tasks c e = let p = and_parts (none c.tasks) (none c.lengths) e in ap (λ ts. map Task ts ++ map length_item c.lengths) (none_nil c.tasks p.0) ∙ no_lengths c p.1
 
-no_reader_writers : (c : Contents) → (eqb c.reader_writers 0 && (none c.tasks && none c.lengths)) ≡ true → from_reader_writers c ≡ []
-no_reader_writers c e = let p = and_parts (eqb c.reader_writers 0) (none c.tasks && none c.lengths) e in ap (λ n. replicate n ReaderWriter ++ from_tasks c) (eqb-true c.reader_writers 0 p.0) ∙ no_tasks c p.1
+no_resources : (c : Contents) → (none c.resources && (none c.tasks && none c.lengths)) ≡ true → from_resources c ≡ []
+no_resources c e = let p = and_parts (none c.resources) (none c.tasks && none c.lengths) e in ap (λ rs. map resource_item rs ++ from_tasks c) (none_nil c.resources p.0) ∙ no_tasks c p.1
 
-no_slots : (c : Contents) → (none c.slots && (eqb c.reader_writers 0 && (none c.tasks && none c.lengths))) ≡ true → from_slots c ≡ []
-no_slots c e = let p = and_parts (none c.slots) (eqb c.reader_writers 0 && (none c.tasks && none c.lengths)) e in ap (λ ks. map Slots ks ++ from_reader_writers c) (none_nil c.slots p.0) ∙ no_reader_writers c p.1
+-- an entry in order is put at the end of the row
+resource_added : (c : Contents) (r : Resource) → in_order c (ResourceEntry r) ≡ true → items_of (entered c (ResourceEntry r)) ≡ items_of c ++ (resource_item r ∷ [])
+resource_added c r e =
+    push_behind (map Cluster c.clusters) _ (from_resources c) (resource_item r)
+    (ap (λ xs. xs ++ from_tasks c) (map_push resource_item c.resources r) ∙ push_before (map resource_item c.resources) (from_tasks c) (resource_item r) (no_tasks c (and_parts (none_later c.resources r) _ e).1))
 
--- an item in order is put at the end of the row
-pub items_added : (c : Contents) (i : Item) → in_order c i ≡ true → items_of (added c i) ≡ items_of c ++ (i ∷ [])
-items_added c (Cluster n) e = ap (λ xs. xs ++ from_slots c) (map_push Cluster c.clusters n) ∙ push_before (map Cluster c.clusters) (from_slots c) (Cluster n) (no_slots c e)
-items_added c (Slots k) e = push_behind (map Cluster c.clusters) _ (from_slots c) (Slots k) (ap (λ xs. xs ++ from_reader_writers c) (map_push Slots c.slots k) ∙ push_before (map Slots c.slots) (from_reader_writers c) (Slots k) (no_reader_writers c e))
-items_added c ReaderWriter e =
-    push_behind (map Cluster c.clusters) _ (from_slots c) ReaderWriter
-    (push_behind (map Slots c.slots) _ (from_reader_writers c) ReaderWriter
-    (ap (λ xs. xs ++ from_tasks c) (sym (replicate_more c.reader_writers ReaderWriter)) ∙ push_before (replicate c.reader_writers ReaderWriter) (from_tasks c) ReaderWriter (no_tasks c e)))
+pub items_added : (c : Contents) (i : Item) → in_order c (entry_of i) ≡ true → items_of (added c i) ≡ items_of c ++ (i ∷ [])
+items_added c (Cluster n) e = ap (λ xs. xs ++ from_resources c) (map_push Cluster c.clusters n) ∙ push_before (map Cluster c.clusters) (from_resources c) (Cluster n) (no_resources c e)
+items_added c (Slots k) e = resource_added c (SlotsFor k) e
+items_added c ReaderWriter e = resource_added c OneWriter e
 items_added c (Task g) e =
-    push_behind (map Cluster c.clusters) _ (from_slots c) (Task g)
-    (push_behind (map Slots c.slots) _ (from_reader_writers c) (Task g)
-    (push_behind (replicate c.reader_writers ReaderWriter) _ (from_tasks c) (Task g)
-    (ap (λ xs. xs ++ map length_item c.lengths) (map_push Task c.tasks g) ∙ push_before (map Task c.tasks) (map length_item c.lengths) (Task g) (no_lengths c e))))
+    push_behind (map Cluster c.clusters) _ (from_resources c) (Task g)
+    (push_behind (map resource_item c.resources) _ (from_tasks c) (Task g)
+    (ap (λ xs. xs ++ map length_item c.lengths) (map_push Task c.tasks g) ∙ push_before (map Task c.tasks) (map length_item c.lengths) (Task g) (no_lengths c e)))
 items_added c (Length t r n) e =
-    push_behind (map Cluster c.clusters) _ (from_slots c) (Length t r n)
-    (push_behind (map Slots c.slots) _ (from_reader_writers c) (Length t r n)
-    (push_behind (replicate c.reader_writers ReaderWriter) _ (from_tasks c) (Length t r n)
+    push_behind (map Cluster c.clusters) _ (from_resources c) (Length t r n)
+    (push_behind (map resource_item c.resources) _ (from_tasks c) (Length t r n)
     (push_behind (map Task c.tasks) _ (map length_item c.lengths) (Length t r n)
-    (map_push length_item c.lengths (record { task = t; resource = r; ticks = n })))))
+    (map_push length_item c.lengths (record { task = t; resource = r; ticks = n }))))
 
 -- an item that passes its questions is taken
 record Passes (c : Contents) (i : Item) : Type 0 where
-  order : in_order c i ≡ true
-  limits : in_limits c i ≡ true
-  room : has_room c i ≡ true
+  order : in_order c (entry_of i) ≡ true
+  limits : in_limits c (entry_of i) ≡ true
+  room : has_room c (entry_of i) ≡ true
 
 no_question : (c : Contents) (i : Item) → Passes c i → first_no (line_questions c (Some i)) ≡ None
 no_question c i p = rw (p.order, p.limits, p.room)
@@ -95,44 +95,36 @@ one_of P before y behind xs e all = all-has P xs y all (subst (λ zs. Has zs y) 
 fewer : {A : Type 0} (before : List A) (y : A) (behind xs : List A) → before ++ (y ∷ behind) ≡ xs → length before < length xs
 fewer before y behind xs e = omega (arith, ap length e, length-append before (y ∷ behind))
 
-units : {A B : Type 0} (n : ℕ) (a : A) (b : B) → map (λ _. b) (replicate n a) ≡ replicate n b
-units zero a b = refl
-units (suc n) a b = ap (λ bs. b ∷ bs) (units n a b)
-
 module _ (c : Contents) (law : Lawful c) where
   abbrev after_clusters : List ℕ → Contents
-  after_clusters xs = record { clusters = xs; slots = []; reader_writers = 0; tasks = []; lengths = [] }
+  after_clusters xs = record { clusters = xs; resources = []; tasks = []; lengths = [] }
 
-  abbrev after_slots : List ℕ → Contents
-  after_slots xs = record { clusters = c.clusters; slots = xs; reader_writers = 0; tasks = []; lengths = [] }
-
-  abbrev after_reader_writers : List (Unit {0}) → Contents
-  after_reader_writers us = record { clusters = c.clusters; slots = c.slots; reader_writers = length us; tasks = []; lengths = [] }
+  abbrev after_resources : List Resource → Contents
+  after_resources rs = record { clusters = c.clusters; resources = rs; tasks = []; lengths = [] }
 
   abbrev after_tasks : List ℕ → Contents
-  after_tasks xs = record { clusters = c.clusters; slots = c.slots; reader_writers = c.reader_writers; tasks = xs; lengths = [] }
+  after_tasks xs = record { clusters = c.clusters; resources = c.resources; tasks = xs; lengths = [] }
 
   abbrev after_lengths : List Declared → Contents
-  after_lengths ds = record { clusters = c.clusters; slots = c.slots; reader_writers = c.reader_writers; tasks = c.tasks; lengths = ds }
+  after_lengths ds = record c { lengths = ds }
 
-  clusters_taken : (n : ℕ) (rest : List (Option Item)) → judge empty n (map Some (map Cluster c.clusters) ++ rest) ≡ judge (after_slots []) (n + length c.clusters) rest
+  clusters_taken : (n : ℕ) (rest : List (Option Item)) → judge empty n (map Some (map Cluster c.clusters) ++ rest) ≡ judge (after_resources []) (n + length c.clusters) rest
   clusters_taken n rest =
       row_taken Cluster after_clusters (λ xs y. refl) [] c.clusters n rest
       (λ before y behind e. record { order = refl; limits = one_of (λ k. within 1 8 k ≡ true) before y behind c.clusters e law.clusters; room = lt-ltb (length before) 8 (omega (arith, fewer before y behind c.clusters e)) })
 
-  slots_taken : (n : ℕ) (rest : List (Option Item)) → judge (after_slots []) n (map Some (map Slots c.slots) ++ rest) ≡ judge (after_reader_writers []) (n + length c.slots) rest
-  slots_taken n rest =
-      row_taken Slots after_slots (λ xs y. refl) [] c.slots n rest
-      (λ before y behind e. record { order = refl; limits = one_of (λ k. within 1 (processors c) k ≡ true) before y behind c.slots e law.slots; room = lt-ltb (length before + 0) 16 (omega (arith, fewer before y behind c.slots e)) })
+  -- a resource in its place
+  resource_passes : (before : List Resource) (r : Resource) (behind : List Resource) → before ++ (r ∷ behind) ≡ c.resources → Passes (after_resources before) (resource_item r)
+  resource_passes before r behind e =
+      let x = entry_of_resource r in record {
+        order = rw x (and_from _ _ (by_kind_front before r behind (subst (λ rs. IsTrue (by_kind rs)) (sym e) law.by_kind)) refl);
+        limits = rw x (one_of (λ r. in_kind_limits (processors c) r ≡ true) before r behind c.resources e (each_kind c law));
+        room = rw x (lt-ltb (length before) 16 (omega (arith, fewer before r behind c.resources e)));
+      }
 
-  reader_writers_taken : (n : ℕ) (rest : List (Option Item)) → judge (after_reader_writers []) n (map Some (replicate c.reader_writers ReaderWriter) ++ rest) ≡ judge (after_tasks []) (n + c.reader_writers) rest
-  reader_writers_taken n rest =
-      let us : List (Unit {0}) = replicate c.reader_writers tt in
-      let size : length us ≡ c.reader_writers = length-replicate c.reader_writers tt in
-      ap (λ is. judge (after_reader_writers []) n (map Some is ++ rest)) (sym (units c.reader_writers tt ReaderWriter))
-      ∙ (row_taken (λ _. ReaderWriter) after_reader_writers (λ xs y. ap (λ k. record { clusters = c.clusters; slots = c.slots; reader_writers = k; tasks = []; lengths = [] }) (sym (length_push xs y))) [] us n rest
-      (λ before y behind e. record { order = refl; limits = refl; room = lt-ltb (length c.slots + length before) 16 (omega (arith, fewer before y behind us e)) })
-      ∙ (ap (λ k. judge (record { clusters = c.clusters; slots = c.slots; reader_writers = k; tasks = []; lengths = [] }) (n + length us) rest) size ∙ ap (λ k. judge (after_tasks []) (n + k) rest) size))
+  resources_taken : (n : ℕ) (rest : List (Option Item)) → judge (after_resources []) n (map Some (map resource_item c.resources) ++ rest) ≡ judge (after_tasks []) (n + length c.resources) rest
+  resources_taken n rest =
+      row_taken resource_item after_resources (λ rs r. ap (entered (after_resources rs)) (entry_of_resource r)) [] c.resources n rest resource_passes
 
   tasks_taken : (n : ℕ) (rest : List (Option Item)) → judge (after_tasks []) n (map Some (map Task c.tasks) ++ rest) ≡ judge (after_lengths []) (n + length c.tasks) rest
   tasks_taken n rest =
@@ -142,25 +134,23 @@ module _ (c : Contents) (law : Lawful c) where
   lengths_taken : (n : ℕ) (rest : List (Option Item)) → judge (after_lengths []) n (map Some (map length_item c.lengths) ++ rest) ≡ judge c (n + length c.lengths) rest
   lengths_taken n rest =
       row_taken length_item after_lengths (λ xs y. refl) [] c.lengths n rest
-      (λ before y behind e. record { order = above_front before y behind (subst Rising (sym e) law.rising); limits = one_of (λ d. in_limits c (length_item d) ≡ true) before y behind c.lengths e law.lengths; room = refl })
+      (λ before y behind e. record { order = above_front before y behind (subst Rising (sym e) law.rising); limits = one_of (λ d. in_limits c (entry_of (length_item d)) ≡ true) before y behind c.lengths e law.lengths; room = refl })
 
   -- the items of lawful contents are taken, and say those contents
   pub items_accepted : complete c ≡ true → judge empty 1 (map Some (items_of c)) ≡ Ok c
   items_accepted full =
       let a : List Item = map Cluster c.clusters in
-      let b : List Item = map Slots c.slots in
-      let w : List Item = replicate c.reader_writers ReaderWriter in
+      let b : List Item = map resource_item c.resources in
       let t : List Item = map Task c.tasks in
       let l : List Item = map length_item c.lengths in
-      let split : map Some (items_of c) ≡ map Some a ++ (map Some b ++ (map Some w ++ (map Some t ++ (map Some l ++ [])))) =
-      map-append Some a _ ∙ ap (λ xs. map Some a ++ xs) (map-append Some b _ ∙ ap (λ xs. map Some b ++ xs) (map-append Some w _ ∙ ap (λ xs. map Some w ++ xs) (map-append Some t l ∙ ap (λ xs. map Some t ++ xs) (sym (append-nil (map Some l)))))) in
+      let split : map Some (items_of c) ≡ map Some a ++ (map Some b ++ (map Some t ++ (map Some l ++ []))) =
+      map-append Some a _ ∙ ap (λ xs. map Some a ++ xs) (map-append Some b _ ∙ ap (λ xs. map Some b ++ xs) (map-append Some t l ∙ ap (λ xs. map Some t ++ xs) (sym (append-nil (map Some l))))) in
       ap (judge empty 1) split
       ∙ (clusters_taken 1 _
-      ∙ (slots_taken _ _
-      ∙ (reader_writers_taken _ _
+      ∙ (resources_taken _ _
       ∙ (tasks_taken _ _
       ∙ (lengths_taken _ []
-      ∙ sealed _)))))
+      ∙ sealed _))))
     where
       sealed : (n : ℕ) → judge c n [] ≡ Ok c
       sealed n = rw full

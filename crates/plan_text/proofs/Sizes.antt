@@ -1,7 +1,7 @@
 -- No plan's text has more than 15,568 bytes: 1,112 lines of at most 14.
 use Rattle.std.proofs.Common.{◌≡◌, ℕ, zero, suc, ◌*◌, ◌^◌, ◌<◌, ◌≤◌, true, ltb, List, [], ◌∷◌, length, replicate, decimal, arith, refl, length-append}
 use Rattle.std.specs.List.{AllByRecursion}
-use Rattle.std.proofs.ByRecursion.{All-append, All-map}
+use Rattle.std.proofs.ByRecursion.{All-append, All-map, All-weaker}
 use Rattle.std.proofs.lemmas.Bool.{and_parts, leb-true, ltb-true}
 use Rattle.std.proofs.lemmas.Fmt.{length-decimal-le}
 use Rattle.std.proofs.lemmas.List.{length-map, length-replicate}
@@ -9,27 +9,28 @@ use Rattle.item.specs.Lines.{item_text}
 use Rattle.item.specs.declared.item.Item.{Item}
 use Rattle.item.specs.declared.item.Item.TheVariants.{Cluster, Slots, ReaderWriter, Task, Length}
 use Rattle.plan.specs.Adding.{in_limits}
-use Rattle.plan.specs.Contents.{Contents, processors, resource_count, length_item, items_of}
+use Rattle.plan.specs.Contents.{Contents, entry_of, processors, resource_count, length_item, items_of}
+use Rattle.plan.specs.Kinds.{in_kind_limits, resource_item}
 use Rattle.plan.specs.Of.{plan_contents}
 use Rattle.plan.specs.declared.plan.Plan.{Plan}
-use Rattle.plan.proofs.Lawful.{Lawful, lawful}
+use Rattle.plan.specs.declared.resource.Resource.{Resource}
+use Rattle.plan.proofs.ByKind.{entry_of_resource}
+use Rattle.plan.proofs.Lawful.{Lawful, each_kind, lawful}
 use Rattle.plan_text.specs.Texts.{row_text, plan_text}
 
 module _ (c : Contents) (law : Lawful c) where
   abbrev Kept : Item → Type 0
-  Kept i = in_limits c i ≡ true
+  Kept i = in_limits c (entry_of i) ≡ true
+
+  kept_resource : (r : Resource) → in_kind_limits (processors c) r ≡ true → Kept (resource_item r)
+  kept_resource r e = rw (entry_of_resource r) e
 
   all_kept : AllByRecursion Kept (items_of c)
   all_kept =
       All-append Kept _ _ (All-map Kept Cluster c.clusters law.clusters)
-      (All-append Kept _ _ (All-map Kept Slots c.slots law.slots)
-      (All-append Kept _ _ (all_writers c.reader_writers)
+      (All-append Kept _ _ (All-map Kept resource_item c.resources (All-weaker _ _ kept_resource c.resources (each_kind c law)))
       (All-append Kept _ _ (All-map Kept Task c.tasks law.tasks)
-      (All-map Kept length_item c.lengths law.lengths))))
-    where
-      all_writers : (n : ℕ) → AllByRecursion Kept (replicate n ReaderWriter)
-      all_writers zero = tt
-      all_writers (suc n) = (refl, all_writers n)
+      (All-map Kept length_item c.lengths law.lengths)))
 
   digits : (k n : ℕ) → 0 < k → k ≤ 5 → n < 10 ^ k → n < 100000 → length (decimal n) ≤ k
   digits k n some few l small = length-decimal-le k n some l (omega arith)

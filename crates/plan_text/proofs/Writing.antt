@@ -24,23 +24,8 @@ pub lays_next : (is : List Item) (i : ℕ) (item : Item) → i < length is → i
 lays_next is i item l e old at middle mid f end new g = rw (row_more is i item l e) (lays_more old at (row_text (take i is)) middle mid (item_text item) end new f g)
 
 -- the item of an entry of a table
-pub entry_item : (make : ℕ → Item) (xs : List ℕ) (i : ℕ) → i < length xs → make (get_or xs i 0) ≡ get_or (map make xs) i ReaderWriter
-entry_item make xs i l = sym (get_or-map make xs i 0 ReaderWriter l)
-
--- the item of a resource
-pub slots_at : (c : Contents) (r : ℕ) → r < length c.slots → Slots (get_or c.slots r 0) ≡ get_or (resource_items c) r ReaderWriter
-slots_at c r l = sym (get_or_append_left (map Slots c.slots) _ ReaderWriter r (omega (arith, length-map c.slots Slots)) ∙ get_or-map Slots c.slots r 0 ReaderWriter l)
-
-writer_row : (n i : ℕ) → get_or (replicate n ReaderWriter) i ReaderWriter ≡ ReaderWriter
-writer_row zero i = refl
-writer_row (suc n) zero = refl
-writer_row (suc n) (suc i) = writer_row n i
-
-pub writers_at : (c : Contents) (r : ℕ) → length c.slots ≤ r → ReaderWriter ≡ get_or (resource_items c) r ReaderWriter
-writers_at c r le = sym (get_or-append_right (map Slots c.slots) _ (length c.slots) r ReaderWriter (length-map c.slots Slots) le ∙ writer_row c.reader_writers (r - length c.slots))
-
-pub length_resources : (c : Contents) → length (resource_items c) ≡ resource_count c
-length_resources c = omega (arith, length-append (map Slots c.slots) (replicate c.reader_writers ReaderWriter), length-map c.slots Slots, length-replicate c.reader_writers ReaderWriter)
+pub entry_item : {X : Type 0} (make : X → Item) (xs : List X) (i : ℕ) (d : X) → i < length xs → make (get_or xs i d) ≡ get_or (map make xs) i ReaderWriter
+entry_item make xs i d l = sym (get_or-map make xs i d ReaderWriter l)
 
 -- the text of the lengths in the first places of the table
 abbrev pub places_text : List ℕ → ℕ → List ℕ
@@ -76,5 +61,4 @@ plan_parts c =
     let t : List Item = task_items c ++ length_items c in
     joined_append item_text (cluster_items c) _
     ∙ ap (λ ys. row_text (cluster_items c) ++ ys)
-    (ap row_text (sym (append_assoc (map Slots c.slots) (replicate c.reader_writers ReaderWriter) t))
-    ∙ (joined_append item_text (resource_items c) t ∙ ap (λ ys. row_text (resource_items c) ++ ys) (joined_append item_text (task_items c) (length_items c))))
+    (joined_append item_text (resource_items c) t ∙ ap (λ ys. row_text (resource_items c) ++ ys) (joined_append item_text (task_items c) (length_items c)))

@@ -1,15 +1,16 @@
 -- The items of a plan, table by table, as the writer lays them.
-use Rattle.std.specs.Prelude.{ℕ, ◌/◌, ◌%◌, List, [], ◌++◌, map, replicate, Some, None, Option}
+use Rattle.std.specs.Prelude.{ℕ, ◌/◌, ◌%◌, List, [], map, Some, None, Option}
 use Rattle.item.specs.Lines.{item_text}
 use Rattle.item.specs.declared.item.Item.{Item}
-use Rattle.item.specs.declared.item.Item.TheVariants.{Cluster, Slots, ReaderWriter, Task, Length}
+use Rattle.item.specs.declared.item.Item.TheVariants.{Cluster, Task, Length}
 use Rattle.plan.specs.Contents.{Contents, length_at, length_item}
+use Rattle.plan.specs.Kinds.{resource_item}
 
 abbrev pub cluster_items : Contents → List Item
 cluster_items c = map Cluster c.clusters
 
 abbrev pub resource_items : Contents → List Item
-resource_items c = map Slots c.slots ++ replicate c.reader_writers ReaderWriter
+resource_items c = map resource_item c.resources
 
 abbrev pub task_items : Contents → List Item
 task_items c = map Task c.tasks

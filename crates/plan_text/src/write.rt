@@ -1,6 +1,5 @@
-ghost use Rattle.std.specs.Prelude.{◌≡◌, ◌+◌, ◌*◌, ◌^◌, ◌<◌, ◌≤◌, slice_index_or};
+ghost use Rattle.std.specs.Prelude.{◌+◌, ◌*◌, ◌^◌, ◌<◌, ◌≤◌};
 ghost use Rattle.item.specs.Lines.{item_text};
-ghost use Rattle.item.specs.declared.item.Item.TheVariants.{ReaderWriter as ReaderWriterItem};
 ghost use Rattle.plan.specs.Of.{plan_contents};
 ghost use Rattle.text.specs.Memory.{Writes, Lays};
 ghost use Rattle.plan_text.specs.Texts.{row_text, plan_text, ReadsBack};
@@ -41,22 +40,8 @@ fn lay_clusters(plan: &Plan, out: &mut [u8], at: usize) -> usize
     end
 }
 
-// The item of a resource: the slot resources come first, and reader-writer resources follow.
-#[tactic(auto, using(crate::proofs::Writing::slots_at, crate::proofs::Writing::writers_at))]
-fn resource_item(plan: &Plan, resource: usize) -> Item
-    ensures { result ≡ slice_index_or (resource_items (plan_contents plan.now)) resource
-        ReaderWriterItem }
-{
-    let slots = plan.slot_holders();
-    if resource < slots.len() {
-        Item::Slots(slots[resource] as u32)
-    } else {
-        Item::ReaderWriter
-    }
-}
-
 // The line of each resource.
-#[tactic(auto, using(crate::proofs::Writing::length_resources, text::proofs::Lays::lays_none))]
+#[tactic(auto, using(text::proofs::Lays::lays_none))]
 fn lay_resources(plan: &Plan, out: &mut [u8], at: usize) -> usize
     requires { at ≤ 2 ^ 40 }
     ensures few { result ≤ at + 35 * 16 }
@@ -65,7 +50,8 @@ fn lay_resources(plan: &Plan, out: &mut [u8], at: usize) -> usize
 {
     let mut end = at;
     for resource in 0..plan.resources() {
-        end = lay_item(out, end, resource_item(plan, resource));
+        let line = plan.resource_row()[resource].item();
+        end = lay_item(out, end, line);
     }
     end
 }

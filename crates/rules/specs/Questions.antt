@@ -1,11 +1,13 @@
 -- The questions put at each call, in order; the first answered no decides.
-use Rattle.std.specs.Prelude.{ℕ, zero, suc, Bool, true, false, cond, not, ◌&&◌, List, [], ◌∷◌, length, is_some, Some, None, Option, ◌==◌, nat_le, nat_lt, slice_index}
+use Rattle.std.specs.Prelude.{ℕ, zero, suc, Bool, true, false, cond, not, ◌&&◌, List, [], ◌∷◌, length, is_some, Some, None, Option, ◌==◌, nat_le, nat_lt, slice_index_or}
 use Rattle.std.specs.Bool.{beq}
 use Rattle.std.specs.Option.{unwrap_or}
 use Rattle.bank.specs.Meaning.{Lists}
 use Rattle.bank.specs.Questions.{Told, knows, enter_questions, leave_questions}
 use Rattle.bank.specs.declared.request.Mode.{Mode}
 use Rattle.plan.specs.Contents.{Contents, length_at, processors, resource_count}
+use Rattle.plan.specs.Kinds.{holders_of, knows_reads}
+use Rattle.plan.specs.declared.resource.Resource.TheVariants.{ReaderWriter}
 use Rattle.text.specs.Questions.{Question, ask}
 use Rattle.rules.specs.Jobs.{Setup, Snapshot, jobs_in, runs, is_among_first, next_issued}
 use Rattle.rules.specs.States.{is_idle, is_holding, wanted_of}
@@ -104,11 +106,11 @@ limit_questions a r m =
     ∷ []
 
 -- the most holders in mode W of a plan's resource, and whether it is a reader-writer resource
-abbrev pub slots_in : Contents → ℕ → ℕ
-slots_in c r = cond (nat_lt r (length c.slots)) (slice_index c.slots r) 1
+unfoldable pub slots_in : Contents → ℕ → ℕ
+slots_in c r = holders_of (slice_index_or c.resources r ReaderWriter)
 
-abbrev pub reads_in : Contents → ℕ → Bool
-reads_in c r = not (nat_lt r (length c.slots))
+unfoldable pub reads_in : Contents → ℕ → Bool
+reads_in c r = knows_reads (slice_index_or c.resources r ReaderWriter)
 
 abbrev pub fits_at : Contents → Told → Lists → ℕ → Bool
 fits_at c t lists r =

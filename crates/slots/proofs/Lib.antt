@@ -4,3 +4,4 @@ pub mod Meaning
 pub mod Places
 pub mod Requests
 pub mod Rows
+pub mod SlotsOf

@@ -11,6 +11,7 @@ use Rattle.bank.specs.declared.request.Mode.{Mode}
 use Rattle.bank.specs.declared.request.Request.{Request}
 use Rattle.plan.specs.Contents.{Contents, processors}
 use Rattle.slots.specs.Lines.{holding, line, requests, turn_limit}
+use Rattle.slots.specs.Planned.{slots_of}
 use Rattle.slots.specs.Rows.{row, bare, place}
 use Rattle.slots.specs.declared.slots.Slots.{Slots}
 
@@ -27,7 +28,9 @@ told_with seats resources k =
 
 -- of a plan its slot resources are taken, with a seat for each processor
 abbrev pub told_for : Contents → Told
-told_for c = told_with (processors c) (length c.slots) (slice_index c.slots)
+told_for c =
+    let ks = slots_of c.resources in
+    told_with (processors c) (length ks) (slice_index ks)
 
 -- k of a resource
 abbrev pub holders_of : Slots → ℕ → ℕ

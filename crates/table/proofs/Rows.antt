@@ -3,7 +3,8 @@ use Rattle.std.proofs.Common.{◌≡◌, ℕ, zero, suc, ◌<◌, ◌≤◌, tru
 use lib.ListN.{get_or-replicate, length-replicate}
 use Rattle.std.proofs.ByRecursion.{All-get_or}
 use Rattle.std.proofs.lemmas.Bool.{ltb-true, cases_lt, cases_eq, cond-true, cond-false, eq-eqb, ne_eqb, lt-ltb}
-use Rattle.plan.specs.Contents.{entry_at}
+use Rattle.std.specs.Prelude.{slice_get}
+use Rattle.std.proofs.lemmas.Option.{slice_get-get_or}
 use Rattle.plan.specs.Of.{plan_contents}
 use Rattle.plan.specs.declared.plan.Plan.{Plan}
 use Rattle.plan.proofs.Lawful.{lawful}
@@ -14,8 +15,8 @@ past_end (x ∷ xs) zero d h = absurd (omega arith)
 past_end (x ∷ xs) (suc i) d h = past_end xs i d (omega arith)
 
 -- an entry that is there
-pub entry_there : (xs : List ℕ) (i : ℕ) → i < length xs → entry_at xs i ≡ Some (get_or xs i 0)
-entry_there xs i l = cond-true (ltb i (length xs)) _ _ (lt-ltb i (length xs) l)
+pub entry_there : (xs : List ℕ) (i : ℕ) → i < length xs → slice_get xs i ≡ Some (get_or xs i 0)
+entry_there xs i l = slice_get-get_or xs i 0 l
 
 -- the cluster of a task exists
 pub cluster_there : (p : Plan) (t : ℕ) → t < length (plan_contents p).tasks → get_or (plan_contents p).tasks t 0 < length (plan_contents p).clusters

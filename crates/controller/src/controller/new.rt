@@ -12,22 +12,21 @@ ghost use Rattle.table.specs.Rows.{tasks_in};
 use crate::controller::Controller;
 use bank::meaning::Bank;
 use plan::plan::Plan;
-use plan::resource::Resource;
 use rules::refusal::Refusal;
 use table::members::Members;
 use table::tasks::Tasks;
 
 // Whether a resource of the plan and the bank has the plan's k and modes, and nobody active.
+#[tactic(auto, unfolding(rules::specs::Questions::slots_in, rules::specs::Questions::reads_in))]
 fn fits_at<B: Bank>(plan: &Plan, bank: &B, resource: u32) -> bool
     requires { (resource < (B.Bank.told bank.now).resources)
         × (resource < resource_count (plan_contents plan.now)) }
     ensures { result ≡ fits_at (plan_contents plan.now) (B.Bank.told bank.now) (B.Bank.active bank.now) resource }
 {
-    let (k, reads) = match plan.resource(resource as usize).unwrap() {
-        Resource::Slots(k) => (k as u32, false),
-        Resource::ReaderWriter => (1, true),
-    };
-    bank.slots(resource).is_ok_and(|slots| slots == k)
+    let planned = plan.resource_row()[resource as usize];
+    let holders = planned.holders();
+    let reads = planned.knows_reads();
+    bank.slots(resource).is_ok_and(|slots| slots == holders)
         && bank.reads(resource).is_ok_and(|known| known == reads)
         && bank.count(resource).is_ok_and(|active| active == 0)
 }
@@ -38,7 +37,12 @@ fn each_fits<B: Bank>(plan: &Plan, bank: &B, resources: u32) -> bool
         × (resources ≤ resource_count (plan_contents plan.now)) }
     ensures { IsTrue result ↔ ((r : ℕ) → r < resources → IsTrue (fits_at (plan_contents plan.now) (B.Bank.told bank.now) (B.Bank.active bank.now) r)) }
 {
-    (0..resources).all(|r| fits_at(plan, bank, r))
+    for resource in 0..resources {
+        if !fits_at(plan, bank, resource) {
+            return false;
+        }
+    }
+    true
 }
 
 // Whether a bank fits a plan.

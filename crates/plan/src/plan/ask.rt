@@ -1,5 +1,6 @@
 ghost use Rattle.std.specs.Prelude.{◌≡◌, ◌<◌, ◌≤◌, length};
-ghost use Rattle.plan.specs.Contents.{smallest, processors, resource_count, entry_at, resource_at, length_at, longest_at, longest_of};
+ghost use Rattle.std.specs.List.{slice_get};
+ghost use Rattle.plan.specs.Contents.{smallest, processors, resource_count, resource_at, length_at, longest_at, longest_of};
 ghost use Rattle.plan.specs.KeepsLimits.{KeepsLimits};
 ghost use Rattle.plan.specs.Of.{contents_of, plan_contents};
 
@@ -9,7 +10,7 @@ use crate::tables::Tables;
 
 // The entry at a place of a table, if there is one.
 fn entry(table: &[u8], place: usize) -> Option<u8>
-    ensures { result ≡ entry_at table.now place }
+    ensures { result ≡ slice_get table.now place }
 {
     table.get(place).copied()
 }
@@ -19,7 +20,7 @@ fn entry(table: &[u8], place: usize) -> Option<u8>
 fn declared_length(tables: &Tables, task: usize, resource: usize) -> Option<u16>
     ensures { result ≡ length_at (contents_of tables.now) task resource }
 {
-    if task >= tables.tasks.len() || resource >= tables.resources() {
+    if task >= tables.tasks.len() || resource >= tables.resources.len() {
         return None;
     }
     let ticks = tables.lengths[task * 16 + resource];
@@ -46,7 +47,7 @@ fn smallest_tables() -> Tables
 {
     let mut tables = Tables::new();
     tables.store_cluster(1);
-    tables.store_slots(1);
+    tables.store_resource(Resource::Slots(1));
     tables.store_task(0);
     tables
 }
@@ -75,7 +76,7 @@ impl Plan {
 
     /// The processors of a cluster, if it exists.
     pub fn processors(&self, cluster: usize) -> Option<u8>
-        ensures { result ≡ entry_at (plan_contents self.now).clusters cluster }
+        ensures { result ≡ slice_get (plan_contents self.now).clusters cluster }
     {
         entry(self.tables.clusters.as_slice(), cluster)
     }
@@ -95,20 +96,12 @@ impl Plan {
         self.tables.clusters.as_slice()
     }
 
-    /// The holders of each slot resource.
-    pub fn slot_holders(&self) -> &[u8]
-        ensures value { result.now ≡ (plan_contents self.now).slots }
+    /// The resources, by kind.
+    pub fn resource_row(&self) -> &[Resource]
+        ensures value { result.now ≡ (plan_contents self.now).resources }
         ensures few { length result.now ≤ 16 }
     {
-        self.tables.slots.as_slice()
-    }
-
-    /// How many reader-writer resources there are; they follow the slot resources.
-    pub fn reader_writers(&self) -> usize
-        ensures value { result ≡ (plan_contents self.now).reader_writers }
-        ensures few { result ≤ 16 }
-    {
-        self.tables.reader_writers
+        self.tables.resources.as_slice()
     }
 
     /// The cluster of each task.
@@ -123,17 +116,14 @@ impl Plan {
     pub fn resources(&self) -> usize
         ensures { result ≡ resource_count (plan_contents self.now) }
     {
-        self.tables.resources()
+        self.tables.resources.len()
     }
 
-    /// The kind of a resource, if it exists.
+    /// A resource, if it exists.
     pub fn resource(&self, resource: usize) -> Option<Resource>
         ensures { result ≡ resource_at (plan_contents self.now) resource }
     {
-        if let Some(k) = entry(self.tables.slots.as_slice(), resource) {
-            return Some(Resource::Slots(k));
-        }
-        (resource < self.tables.resources()).then_some(Resource::ReaderWriter)
+        self.resource_row().get(resource).copied()
     }
 
     /// How many tasks there are.
@@ -145,7 +135,7 @@ impl Plan {
 
     /// The cluster of a task, if it exists.
     pub fn cluster_of(&self, task: usize) -> Option<u8>
-        ensures { result ≡ entry_at (plan_contents self.now).tasks task }
+        ensures { result ≡ slice_get (plan_contents self.now).tasks task }
     {
         entry(self.tables.tasks.as_slice(), task)
     }
@@ -162,7 +152,7 @@ impl Plan {
     pub fn longest(&self, resource: usize) -> Option<u16>
         ensures { result ≡ longest_of (plan_contents self.now) resource }
     {
-        if resource >= self.tables.resources() {
+        if resource >= self.tables.resources.len() {
             return None;
         }
         Some(longest_length(&self.tables, resource))

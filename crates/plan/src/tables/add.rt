@@ -1,13 +1,17 @@
-ghost use Rattle.std.specs.Prelude.{◌≡◌, ◌+◌, ◌*◌, ◌<◌, ◌≤◌, [], length, sum, replicate, Some, None, Ok, Err};
-ghost use Rattle.item.specs.declared.item.Item.TheVariants.{Cluster as ClusterItem, Slots as SlotsItem, ReaderWriter as ReaderWriterItem, Task as TaskItem, Length as LengthItem};
+ghost use Rattle.std.specs.Prelude.{◌≡◌, IsTrue, ◌+◌, ◌*◌, ◌<◌, ◌≤◌, length, sum, replicate, Some, None, Ok, Err};
 ghost use Rattle.text.specs.Questions.{first_no};
 ghost use Rattle.text.specs.Refusals.{number};
-ghost use Rattle.plan.specs.Adding.{empty, none, below, above, added, in_order, in_limits, has_room, item_questions};
-ghost use Rattle.plan.specs.Contents.{processors, resource_count};
+ghost use Rattle.plan.specs.Adding.{empty, none, below, above, entered, in_order, in_limits, has_room, entry_questions};
+ghost use Rattle.plan.specs.Contents.{processors};
 ghost use Rattle.plan.specs.Drafts.{TakesLine};
 ghost use Rattle.plan.specs.Limits.{Between};
+ghost use Rattle.plan.specs.Kinds.{in_kind_limits, none_later};
 ghost use Rattle.plan.specs.Of.{placed, declared, contents_of};
+ghost use Rattle.plan.specs.declared.entry.Entry.TheVariants.{Cluster as ClusterEntry, Resource as ResourceEntry, Task as TaskEntry, Length as LengthEntry};
 
+use crate::entry::{Entry, entry_of};
+use crate::resource::Resource;
+use crate::resources::Resources;
 use crate::tables::Tables;
 use byte_vec::byte_vec::ByteVec;
 use item::item::Item;
@@ -32,12 +36,11 @@ impl Tables {
     // Tables with nothing in them, over a place of the lengths where none is declared.
     fn bare(lengths: [u16; 1024]) -> Tables
         requires { lengths ≡ replicate 1024 0 }
-        ensures { contents_of result ≡ record { clusters = []; slots = []; reader_writers = 0; tasks = []; lengths = declared 0 lengths } }
+        ensures { contents_of result ≡ record empty { lengths = declared 0 lengths } }
     {
         Tables {
             clusters: ByteVec::new(),
-            slots: ByteVec::new(),
-            reader_writers: 0,
+            resources: Resources::new(),
             tasks: ByteVec::new(),
             lengths,
             lengths_end: 0,
@@ -50,14 +53,6 @@ impl Tables {
         ensures { contents_of result ≡ empty }
     {
         Tables::bare([0; 1024])
-    }
-
-    // How many resources there are.
-    pub(crate) fn resources(&self) -> usize
-        ensures count { result ≡ resource_count (contents_of self.now) }
-        ensures few { result ≤ 16 }
-    {
-        self.slots.len() + self.reader_writers
     }
 
     // The processors of all clusters.
@@ -86,20 +81,28 @@ impl Tables {
         is_below((self.lengths_end - 1) as u32, task, resource)
     }
 
-    fn in_order(&self, item: Item) -> bool
-        ensures { result ≡ in_order (contents_of self.now) item }
+    // Whether no resource of a later kind than this one was taken.
+    fn none_later(&self, resource: Resource) -> bool
+        ensures { result ≡ none_later (contents_of self.now).resources resource }
     {
-        match item {
-            Item::Cluster(_) => self.slots.len() == 0
-                && self.reader_writers == 0
+        self.resources
+            .as_slice()
+            .iter()
+            .all(|taken| taken.rank() <= resource.rank())
+    }
+
+    fn in_order(&self, entry: Entry) -> bool
+        ensures { result ≡ in_order (contents_of self.now) entry }
+    {
+        match entry {
+            Entry::Cluster(_) => self.resources.len() == 0
                 && self.tasks.len() == 0
                 && self.no_lengths(),
-            Item::Slots(_) => self.reader_writers == 0
+            Entry::Resource(resource) => self.none_later(resource)
                 && self.tasks.len() == 0
                 && self.no_lengths(),
-            Item::ReaderWriter => self.tasks.len() == 0 && self.no_lengths(),
-            Item::Task(_) => self.no_lengths(),
-            Item::Length {
+            Entry::Task(_) => self.no_lengths(),
+            Entry::Length {
                 task,
                 resource,
                 ticks: _,
@@ -107,34 +110,33 @@ impl Tables {
         }
     }
 
-    fn in_limits(&self, item: Item) -> bool
-        ensures { result ≡ in_limits (contents_of self.now) item }
+    fn in_limits(&self, entry: Entry) -> bool
+        ensures { result ≡ in_limits (contents_of self.now) entry }
     {
-        match item {
-            Item::Cluster(c) => (1..=8).contains(&c),
-            Item::Slots(k) => (1..=self.processors()).contains(&k),
-            Item::ReaderWriter => true,
-            Item::Task(g) => (g as usize) < self.clusters.len(),
-            Item::Length {
+        match entry {
+            Entry::Cluster(c) => (1..=8).contains(&c),
+            Entry::Resource(resource) => resource.in_limits(self.processors()),
+            Entry::Task(g) => (g as usize) < self.clusters.len(),
+            Entry::Length {
                 task,
                 resource,
                 ticks,
             } => {
                 (task as usize) < self.tasks.len()
-                    && (resource as usize) < self.resources()
+                    && (resource as usize) < self.resources.len()
                     && (1..=10000).contains(&ticks)
             }
         }
     }
 
-    fn has_room(&self, item: Item) -> bool
-        ensures { result ≡ has_room (contents_of self.now) item }
+    fn has_room(&self, entry: Entry) -> bool
+        ensures { result ≡ has_room (contents_of self.now) entry }
     {
-        match item {
-            Item::Cluster(_) => self.clusters.len() < 8,
-            Item::Slots(_) | Item::ReaderWriter => self.resources() < 16,
-            Item::Task(_) => self.tasks.len() < 64,
-            Item::Length {
+        match entry {
+            Entry::Cluster(_) => self.clusters.len() < 8,
+            Entry::Resource(_) => self.resources.len() < 16,
+            Entry::Task(_) => self.tasks.len() < 64,
+            Entry::Length {
                 task: _,
                 resource: _,
                 ticks: _,
@@ -142,17 +144,17 @@ impl Tables {
         }
     }
 
-    // Whether an item may be added, or the first question answered no.
-    fn judge(&self, item: Item) -> Result<(), Refusal>
-        ensures { first_no (item_questions (contents_of self.now) item) ≡ elim result [ Ok done ↦ None | Err why ↦ Some (number why) ] }
+    // Whether an entry may be added, or the first question answered no.
+    fn judge(&self, entry: Entry) -> Result<(), Refusal>
+        ensures { first_no (entry_questions (contents_of self.now) entry) ≡ elim result [ Ok done ↦ None | Err why ↦ Some (number why) ] }
     {
-        if !self.in_order(item) {
+        if !self.in_order(entry) {
             return Err(Refusal::Order);
         }
-        if !self.in_limits(item) {
+        if !self.in_limits(entry) {
             return Err(Refusal::Limits);
         }
-        if !self.has_room(item) {
+        if !self.has_room(entry) {
             return Err(Refusal::Full);
         }
         Ok(())
@@ -161,54 +163,48 @@ impl Tables {
     // One function for each table: each asks for other facts, and one for all would need a tag that
     // names the table.
     pub(crate) fn store_cluster(&mut self, c: u8)
-        requires { (1 ≤ c) × ((c ≤ 8) × ((length self.old.clusters < 8) × (length self.old.slots ≡ 0))) }
-        ensures { contents_of self.new ≡ added (contents_of self.old) (ClusterItem c) }
+        requires { (1 ≤ c) × ((c ≤ 8) × ((length self.old.clusters < 8) × (length self.old.resources ≡ 0))) }
+        ensures { contents_of self.new ≡ entered (contents_of self.old) (ClusterEntry c) }
     {
         self.clusters.push(c).unwrap();
     }
 
-    pub(crate) fn store_slots(&mut self, k: u8)
-        requires { (1 ≤ k) × ((k ≤ processors (contents_of self.old)) × (length self.old.slots + self.old.reader_writers < 16)) }
-        ensures { contents_of self.new ≡ added (contents_of self.old) (SlotsItem k) }
+    pub(crate) fn store_resource(&mut self, resource: Resource)
+        requires { (length self.old.resources < 16)
+            × IsTrue (in_kind_limits (processors (contents_of self.old)) resource)
+            × IsTrue (none_later self.old.resources resource) }
+        ensures { contents_of self.new ≡ entered (contents_of self.old) (ResourceEntry resource) }
     {
-        self.slots.push(k).unwrap();
-    }
-
-    fn store_reader_writer(&mut self)
-        requires { length self.old.slots + self.old.reader_writers < 16 }
-        ensures { contents_of self.new ≡ added (contents_of self.old) ReaderWriterItem }
-    {
-        self.reader_writers += 1;
+        self.resources.push(resource);
     }
 
     pub(crate) fn store_task(&mut self, g: u8)
         requires { (g < length self.old.clusters) × (length self.old.tasks < 64) }
-        ensures { contents_of self.new ≡ added (contents_of self.old) (TaskItem g) }
+        ensures { contents_of self.new ≡ entered (contents_of self.old) (TaskEntry g) }
     {
         self.tasks.push(g).unwrap();
     }
 
     fn store_length(&mut self, task: usize, resource: usize, ticks: u16)
-        requires { (task < length self.old.tasks) × ((resource < length self.old.slots + self.old.reader_writers) × ((1 ≤ ticks) × ((ticks ≤ 10000) × (self.old.lengths_end ≤ task * 16 + resource)))) }
-        ensures { contents_of self.new ≡ added (contents_of self.old) (LengthItem task resource ticks) }
+        requires { (task < length self.old.tasks) × ((resource < length self.old.resources) × ((1 ≤ ticks) × ((ticks ≤ 10000) × (self.old.lengths_end ≤ task * 16 + resource)))) }
+        ensures { contents_of self.new ≡ entered (contents_of self.old) (LengthEntry task resource ticks) }
     {
         let place = task * 16 + resource;
         self.lengths[place] = ticks;
         self.lengths_end = place + 1;
     }
 
-    // Puts an item that passed its questions at the end of its table.
+    // Puts an entry that passed its questions at the end of its table.
     #[tactic(auto, using(crate::proofs::Adding::passes, crate::proofs::Grid::above_behind, crate::proofs::Rows::processors_few, std::proofs::lemmas::Bool::Decides::nat_tests))]
-    fn store(&mut self, item: Item)
-        requires { first_no (item_questions (contents_of self.old) item) ≡ None }
-        ensures { contents_of self.new ≡ added (contents_of self.old) item }
+    fn store(&mut self, entry: Entry)
+        requires { first_no (entry_questions (contents_of self.old) entry) ≡ None }
+        ensures { contents_of self.new ≡ entered (contents_of self.old) entry }
     {
-        match item {
-            Item::Cluster(c) => self.store_cluster(c as u8),
-            Item::Slots(k) => self.store_slots(k as u8),
-            Item::ReaderWriter => self.store_reader_writer(),
-            Item::Task(g) => self.store_task(g as u8),
-            Item::Length {
+        match entry {
+            Entry::Cluster(c) => self.store_cluster(c as u8),
+            Entry::Resource(resource) => self.store_resource(resource),
+            Entry::Task(g) => self.store_task(g as u8),
+            Entry::Length {
                 task,
                 resource,
                 ticks,
@@ -221,9 +217,9 @@ impl Tables {
     pub(crate) fn take_line(&mut self, line: &[u8]) -> Result<(), Refusal>
         ensures { TakesLine line.now self.old result self.new }
     {
-        let item = Item::try_from(line)?;
-        self.judge(item)?;
-        self.store(item);
+        let entry = entry_of(Item::try_from(line)?);
+        self.judge(entry)?;
+        self.store(entry);
         Ok(())
     }
 }

@@ -1,20 +1,22 @@
 ghost use Rattle.std.specs.Prelude.{◌≡◌, ℕ, [], length, slice_index, slice_index_or};
 ghost use Rattle.bank.specs.declared.size.TheConstants.{RESOURCES};
 ghost use Rattle.plan.specs.Of.{plan_contents};
-ghost use Rattle.slots.specs.Slots.{MadeFrom};
+ghost use Rattle.slots.specs.Planned.{slots_of};
 ghost use Rattle.slots.specs.Rows.{row, bare};
+ghost use Rattle.slots.specs.Slots.{MadeFrom};
 
 use crate::line::Line;
 use crate::slots::Slots;
 use bank::size::RESOURCES;
 use byte_vec::byte_vec::ByteVec;
 use plan::plan::Plan;
+use plan::resource::Resource;
 
 // The slot resources of a plan with nobody active, and how many there are.
 fn lines_of(plan: &Plan) -> ([Line; RESOURCES], u32)
     ensures long { length result.0 ≡ RESOURCES }
-    ensures count { result.1 ≡ length (plan_contents plan.now).slots }
-    ensures each { (r : ℕ) → (slice_index_or result.0 r bare).slots ≡ slice_index (plan_contents plan.now).slots r }
+    ensures count { result.1 ≡ length (slots_of (plan_contents plan.now).resources) }
+    ensures each { (r : ℕ) → (slice_index_or result.0 r bare).slots ≡ slice_index (slots_of (plan_contents plan.now).resources) r }
     ensures nobody { (r : ℕ) → row (slice_index_or result.0 r bare) ≡ [] }
 {
     let line = Line {
@@ -22,10 +24,17 @@ fn lines_of(plan: &Plan) -> ([Line; RESOURCES], u32)
         parties: ByteVec::new(),
     };
     let mut lines = [line; RESOURCES];
-    for (r, k) in plan.slot_holders().iter().enumerate() {
-        lines[r].slots = *k;
+    let mut count = 0;
+    for place in 0..plan.resources() {
+        match plan.resource_row()[place] {
+            Resource::Slots(k) => {
+                lines[count].slots = k as u8;
+                count += 1;
+            }
+            Resource::ReaderWriter => {}
+        }
     }
-    (lines, plan.slot_holders().len() as u32)
+    (lines, count as u32)
 }
 
 impl Slots {

@@ -13,7 +13,7 @@ loop-cluster-preserved c =
     let i = c.loop-cluster.cluster in
     let l : i < length said.clusters = omega arith in
     let item = Cluster (get_or c.cluster_processors.result.now i 0) in
-    let here : item ≡ get_or items i ReaderWriter = ap (λ xs. Cluster (get_or xs i 0)) c.cluster_processors.ensures.value ∙ entry_item Cluster said.clusters i l in (
+    let here : item ≡ get_or items i ReaderWriter = ap (λ xs. Cluster (get_or xs i 0)) c.cluster_processors.ensures.value ∙ entry_item Cluster said.clusters i 0 l in (
       lays_next items i item (omega (arith, length-map said.clusters Cluster)) here c.args.out.now c.args.at c.loop-cluster.end c.loop-cluster.out c.loop-cluster.invariant.0 c.lay_item-end.result c.lay_item-end.new.out c.lay_item-end.ensures.lays,
       omega (arith, c.lay_item-end.ensures.few, c.loop-cluster.invariant.1),
     )

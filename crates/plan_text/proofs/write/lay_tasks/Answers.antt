@@ -13,7 +13,7 @@ loop-task-preserved c =
     let i = c.loop-task.task in
     let l : i < length said.tasks = omega arith in
     let item = Task (get_or c.task_clusters.result.now i 0) in
-    let here : item ≡ get_or items i ReaderWriter = ap (λ xs. Task (get_or xs i 0)) c.task_clusters.ensures.value ∙ entry_item Task said.tasks i l in (
+    let here : item ≡ get_or items i ReaderWriter = ap (λ xs. Task (get_or xs i 0)) c.task_clusters.ensures.value ∙ entry_item Task said.tasks i 0 l in (
       lays_next items i item (omega (arith, length-map said.tasks Task)) here c.args.out.now c.args.at c.loop-task.end c.loop-task.out c.loop-task.invariant.0 c.lay_item-end.result c.lay_item-end.new.out c.lay_item-end.ensures.lays,
       omega (arith, c.lay_item-end.ensures.few, c.loop-task.invariant.1),
     )

@@ -3,7 +3,7 @@ use Rattle.std.proofs.lemmas.Bool.{cases_lt}
 use Rattle.std.proofs.lemmas.List.{get_or_past}
 use Rattle.std.proofs.lemmas.List.Sums.{sum_by-cons}
 use Rattle.plan.proofs.Rows.{processors_few}
-use Rattle.readers_writers.specs.Told.{told_with}
+use Rattle.readers_writers.specs.Told.{reader_writers_of, told_with}
 use Rattle.readers_writers.specs.Kept.{named, good}
 use Rattle.readers_writers.specs.declared.line.Line.{Line}
 use Rattle.readers_writers.specs.Limits.{list_of, bare, Keeping}
@@ -22,9 +22,8 @@ invariant_of-result c =
     let has = c.args.plan.now.has_cluster in
     let few = processors_few t.clusters t.few_clusters t.clusters_sized in
     let one = some_processor t.clusters has (t.clusters_sized 0 has).0 in
-    let w = c.reader_writers-count.ensures.value in
     let m = c.all_processors-seats.ensures in
-    let held = t.resources_held in record {
+    let few_lines = c.count_in-count.ensures.few in record {
       long = c.default.ensures.long;
       few = omega arith;
       seated = omega arith;
@@ -34,6 +33,6 @@ invariant_of-result c =
 
 pub returns : goal.returns
 returns c = record {
-  told = ap (λ n. told_with n c.all_processors-seats.result) c.reader_writers-count.ensures.value ∙ ap (told_with c.args.plan.now.tables.reader_writers) c.all_processors-seats.ensures;
+  told = ap (λ n. told_with n c.all_processors-seats.result) (c.count_in-count.ensures.count ∙ ap reader_writers_of c.resource_row.ensures.value) ∙ ap (told_with (reader_writers_of c.args.plan.now.tables.resources)) c.all_processors-seats.ensures;
   nobody = λ r. ⊎_elim (λ l. c.default.ensures.at r bare l) (λ l. ap list_of (get_or_past c.default.result r bare (omega (arith, c.default.ensures.long)))) (cases_lt r 16);
 }
