@@ -15,6 +15,7 @@ use rules::task::Task;
 
 impl Table<'_> {
     // The record of a task.
+    #[inline(always)]
     pub(crate) fn task(&self, task: usize) -> Task
         ensures { result ≡ records_of self.now task }
     {
@@ -26,6 +27,7 @@ impl Table<'_> {
     }
 
     // The job of a task, if it is selected.
+    #[inline(always)]
     fn job_at(&self, which: Selection, task: u8) -> Option<Job>
         ensures { result ≡ job_at (records_of self.now) which task }
     {
@@ -37,6 +39,7 @@ impl Table<'_> {
     }
 
     // Appends the jobs of those of some tasks that are selected.
+    #[inline(always)]
     pub(crate) fn add_jobs<const N: usize>(
         &self,
         which: Selection,
@@ -56,6 +59,7 @@ impl Table<'_> {
     }
 
     // How many selected jobs of its cluster come before that of a task.
+    #[inline(always)]
     fn jobs_before(&self, which: Selection, task: usize) -> usize
         requires { task < self.now.tasks }
         ensures { result ≡ before (plan_contents self.now.plan.now) self.now.tasks
@@ -79,6 +83,7 @@ impl Table<'_> {
     }
 
     // Whether the job of a task is selected, and fewer such come before it than its cluster has processors.
+    #[inline(always)]
     fn ranks(&self, which: Selection, task: usize) -> bool
         ensures { result ≡ ranks (plan_contents self.now.plan.now) self.now.tasks
             (jobs_of (records_of self.now))

@@ -17,6 +17,7 @@ pub enum Selection {
 
 impl Selection {
     /// Whether a task in this state is among them.
+    #[inline(always)]
     pub fn has(self, state: State) -> bool
         ensures { result ≡ selects self state }
     {
