@@ -71,7 +71,9 @@ impl<B: Bank> Controller<B> {
         }
     }
 
-    // A controller of so many tasks and resources, every task idle.
+    // A controller of so many tasks and resources, every task idle. Inlined, as what calls it, so
+    // that so large a value is not moved from call to call.
+    #[inline(always)]
     fn with_tasks(plan: &Plan, bank: B, tasks: usize, resources: u32) -> Controller<B>
         requires { (tasks ≤ length (plan_contents plan.now).tasks) × (resources ≤ resource_count (plan_contents plan.now)) }
         ensures plan { result.plan ≡ plan.now }
@@ -94,6 +96,7 @@ impl<B: Bank> Controller<B> {
         }
     }
 
+    #[inline(always)]
     fn start(plan: &Plan, bank: B) -> Controller<B>
         ensures begins { Begins (setup_of B.Bank result) (snapshot_of B.Bank result) }
         ensures plan { plan_contents result.plan ≡ plan_contents plan.now }
@@ -108,6 +111,7 @@ impl<B: Bank> Controller<B> {
 
     /// A controller at clock 0 with every task idle. Over a bank that fits it has the plan's tasks
     /// and resources. Over another it has none, so that each call for a task is refused with 1.
+    #[inline(always)]
     pub fn new(plan: &Plan, bank: B) -> Controller<B>
         ensures begins { Begins (setup_of B.Bank result) (snapshot_of B.Bank result) }
         ensures starts { Starts (setup_of B.Bank result) (snapshot_of B.Bank result) }
