@@ -6,7 +6,7 @@ use Rattle.std.proofs.Math.Seq.{take-append-add}
 use Rattle.std.proofs.lemmas.Bool.{true≢false, eqb-true, cond-true, cond-false, cases_Bool, cases_lt}
 use Rattle.bank.specs.declared.request.Mode.TheVariants.{Write, Read}
 use Rattle.event.specs.Lines.{read_event, event_text, IsLineOf}
-use Rattle.rules.specs.declared.call.Call.{Call as Event}
+use Rattle.rules.specs.declared.call.Call.{Call}
 use Rattle.rules.specs.declared.call.Call.TheVariants.{Release, Ask, Give, Finish, Tick}
 use Rattle.event.proofs.Lines.{is_line_of, long_none}
 use Rattle.text.specs.Lines.{before_newline, join_first, lines_of}
@@ -147,7 +147,7 @@ plain_last b [] p = cond-false _ _ _ p.0
 plain_last b (c ∷ cs) p = cond-false _ _ _ p.0 ∙ ap (join_first b) (plain_last c cs p.1)
 
 -- an event's line has its newline
-newline_in : (e : Event) → Plain (event_text e) → ⊥
+newline_in : (e : Call) → Plain (event_text e) → ⊥
 newline_in (Release t) p = true≢false (plain_right (decimal t) (10 ∷ []) p.1.1).0
 newline_in (Ask t r Write) p = true≢false (plain_right (decimal r) _ (plain_right (decimal t) _ p.1.1).1).1.1.0
 newline_in (Ask t r Read) p = true≢false (plain_right (decimal r) _ (plain_right (decimal t) _ p.1.1).1).1.1.0
@@ -158,7 +158,7 @@ newline_in Tick p = true≢false p.1.0
 pub plain_unread : (line : List ℕ) → Plain line → read_event line ≡ None
 plain_unread line p = from (read_event line) (is_line_of line)
   where
-    from : (o : Option Event) → IsLineOf line o → o ≡ None
+    from : (o : Option Call) → IsLineOf line o → o ≡ None
     from None w = refl
     from (Some e) w = absurd (newline_in e (subst Plain w.1 p))
 

@@ -12,7 +12,8 @@ use Rattle.plan_text.specs.Texts.{Verdict}
 use Rattle.rules.specs.Histories.{History}
 use Rattle.text.specs.Lines.{lines_of}
 use Rattle.dry_run.specs.Banks.{PlanBanks, meaning}
-use Rattle.dry_run.specs.Fed.{FedIn, Fed, Laid}
+use Rattle.event.specs.Laid.{Laid}
+use Rattle.dry_run.specs.Fed.{FedIn, Fed}
 use Rattle.dry_run.specs.Played.{Has, Played, PlayedInPart}
 use Rattle.dry_run.specs.Plays.{Replays, none, unreadable, answered, Plays, PrintedBy, Printed}
 use Rattle.dry_run.specs.Said.{part_verdict, verdict, behind_plan, preamble_text}

@@ -5,7 +5,7 @@ use Rattle.std.proofs.lemmas.Option.{none-some, same_Some}
 use Rattle.bank.specs.Meaning.{Lists}
 use Rattle.bank.specs.declared.request.Mode.{Mode}
 use Rattle.controller.specs.Banks.{BankChanges, IssuedChanges}
-use Rattle.event.specs.Answers.{event_of, line_text, refused_text}
+use Rattle.event.specs.Answers.{event_call, line_text, refused_text}
 use Rattle.event.specs.Lines.{event_then}
 use Rattle.rules.specs.Answers.{call_of, Gives, IssuesNext, Answered}
 use Rattle.rules.specs.Jobs.{Setup, Snapshot, next_issued}
@@ -121,9 +121,9 @@ module _ (a : Setup) (s : Snapshot) (b d u v : PlanBanks) (same : SameBanks b d)
   abbrev pub Both : Event → Event → Type 0
   Both x y = Answered a s x ls → Answered a s y ms → BankChanges meaning s x b u → BankChanges meaning s y d v → SameCall s x y × SameBanks u v
 
-  pub call_same : (e : Call) (x y : Event) → event_of x ≡ Some e → event_of y ≡ Some e → Both x y
-  call_same e (Accepted x) (Accepted y) f g p q c k =
-      let one = accepted_same a s b d u v same ls ms x y (same_Some _ _ (f ∙ sym g)) p.gives q.gives c k in
+  pub call_same : (x y : Event) → event_call x ≡ event_call y → Both x y
+  call_same (Accepted x) (Accepted y) f p q c k =
+      let one = accepted_same a s b d u v same ls ms x y f p.gives q.gives c k in
       let same : x ≡ y = one.0 in (
         record {
           text = ap (λ z. line_text (Accepted z)) same;
@@ -133,10 +133,9 @@ module _ (a : Setup) (s : Snapshot) (b d u v : PlanBanks) (same : SameBanks b d)
         },
         one.1,
       )
-  call_same e (Accepted x) (Refused call w) f g p q c k = absurd (not_both a s x call w ls ms (same_Some _ _ (f ∙ sym g)) p q)
-  call_same e (Refused call w) (Accepted y) f g p q c k = absurd (not_both a s y call w ms ls (same_Some _ _ (g ∙ sym f)) q p)
-  call_same e (Refused call w) (Refused other z) f g p q c k =
-      let form : call ≡ other = same_Some _ _ (f ∙ sym g) in
+  call_same (Accepted x) (Refused call w) f p q c k = absurd (not_both a s x call w ls ms f p q)
+  call_same (Refused call w) (Accepted y) f p q c k = absurd (not_both a s y call w ms ls (sym f) q p)
+  call_same (Refused call w) (Refused other z) form p q c k =
       let q' = subst (λ i. Answered a s (Refused i z) ms) (sym form) q in (
         record {
           text = ap (λ i. event_then i (44 ∷ refused_text w)) form ∙ ap (λ i. event_then other (44 ∷ i)) (same_refused_text w z (refused_number _ _ w z p.by q'.by) (p.named ∙ sym q'.named));

@@ -6,13 +6,13 @@ use Rattle.std.proofs.lemmas.Option.{none-some, same_Some}
 use Rattle.bank.specs.Meaning.{Lists}
 use Rattle.controller.specs.Banks.{BankChanges}
 use Rattle.controller.specs.declared.controller.Controller.{Controller}
-use Rattle.event.specs.Answers.{calls_of, event_of, line_text, unreadable_text}
+use Rattle.event.specs.Answers.{calls_of, event_call, line_text, unreadable_text}
 use Rattle.event.specs.Lines.{read_event, event_questions}
-use Rattle.rules.specs.declared.call.Call.{Call as Event}
+use Rattle.rules.specs.declared.call.Call.{Call}
 use Rattle.bank.specs.Questions.{Told}
 use Rattle.plan.specs.Contents.{Contents, resource_count}
 use Rattle.plan_text.specs.Texts.{Verdict}
-use Rattle.rules.specs.declared.event.Event.{Event as Call}
+use Rattle.rules.specs.declared.event.Event.{Event}
 use Rattle.rules.specs.Histories.{History}
 use Rattle.rules.specs.Jobs.{Setup, Snapshot}
 use Rattle.rules.specs.Moves.{Does, moved_task, one_more_if}
@@ -63,11 +63,11 @@ starts_same c k j x y =
 
 -- A STEP
 
-step_same : (k j : Controller PlanBanks meaning) → Same k j → (e : Event) (x y : Call) → event_of x ≡ Some e → event_of y ≡ Some e → (p q : Controller PlanBanks meaning) → Step k x p → Step j y q → Same p q × (line_text x ≡ line_text y)
-step_same k j same e x y f g p q a b =
+step_same : (k j : Controller PlanBanks meaning) → Same k j → (x y : Event) → event_call x ≡ event_call y → (p q : Controller PlanBanks meaning) → Step k x p → Step j y q → Same p q × (line_text x ≡ line_text y)
+step_same k j same x y f p q a b =
     let does : Does (setup k) (snapshot k) y (snapshot q) = subst (λ v. Does v (snapshot k) y (snapshot q)) (sym same.set_up) (subst (λ s. Does (setup j) s y (snapshot q)) (sym same.stands) b.does) in
     let banks : BankChanges meaning (snapshot k) y j.bank q.bank = subst (λ s. BankChanges meaning s y j.bank q.bank) (sym same.stands) b.bank in
-    let both = call_same (setup k) (snapshot k) k.bank j.bank p.bank q.bank same.banks (snapshot p).lists (snapshot q).lists e x y f g a.does.answered does.answered a.bank banks in
+    let both = call_same (setup k) (snapshot k) k.bank j.bank p.bank q.bank same.banks (snapshot p).lists (snapshot q).lists x y f a.does.answered does.answered a.bank banks in
     let lists = banks_exact.lists _ _ both.1 in (
       record {
         set_up = a.setup ∙ (same.set_up ∙ sym b.setup);
@@ -85,30 +85,30 @@ step_same k j same e x y f g p q a b =
 -- A ROW OF CALLS
 
 -- the same is called, and the same is printed
-abbrev SameAsked : List Call → List Call → Type 0
+abbrev SameAsked : List Event → List Event → Type 0
 SameAsked [] [] = Unit {0}
-SameAsked (x ∷ xs) (y ∷ ys) = ((e : Event) × (event_of x ≡ Some e) × (event_of y ≡ Some e)) × SameAsked xs ys
+SameAsked (x ∷ xs) (y ∷ ys) = (event_call x ≡ event_call y) × SameAsked xs ys
 SameAsked _ _ = ⊥
 
-abbrev SameTexts : List Call → List Call → Type 0
+abbrev SameTexts : List Event → List Event → Type 0
 SameTexts [] [] = Unit {0}
 SameTexts (x ∷ xs) (y ∷ ys) = (line_text x ≡ line_text y) × SameTexts xs ys
 SameTexts _ _ = ⊥
 
-steps_same : (xs ys : List Call) (k j : Controller PlanBanks meaning) → Same k j → SameAsked xs ys → (h i g f : History) (p q : Controller PlanBanks meaning) → StepsBy xs k h p g → StepsBy ys j i q f → Same p q × SameTexts xs ys
+steps_same : (xs ys : List Event) (k j : Controller PlanBanks meaning) → Same k j → SameAsked xs ys → (h i g f : History) (p q : Controller PlanBanks meaning) → StepsBy xs k h p g → StepsBy ys j i q f → Same p q × SameTexts xs ys
 steps_same [] [] k j same asked h i g f p q a b = (subst (λ x. Same x q) (sym a.0) (subst (Same k) (sym b.0) same), tt)
 steps_same [] (y ∷ ys) k j same asked h i g f p q a b = absurd asked
 steps_same (x ∷ xs) [] k j same asked h i g f p q a b = absurd asked
-steps_same (x ∷ xs) (y ∷ ys) k j same ((e, called, again), asked) h i g f p q (next, step, steps) (next2, step2, steps2) =
-    let one = step_same k j same e x y called again next next2 step step2 in
+steps_same (x ∷ xs) (y ∷ ys) k j same (f, asked) h i g f p q (next, step, steps) (next2, step2, steps2) =
+    let one = step_same k j same x y f next next2 step step2 in
     let rest = steps_same xs ys next next2 one.0 asked _ _ g f p q steps steps2 in
     (rest.0, (one.1, rest.1))
 
 -- those of one event with its answer
-calls_asked : (e : Event) (x y : Call) → event_of x ≡ Some e → event_of y ≡ Some e → SameAsked (calls_of x) (calls_of y)
-calls_asked e x y f g = ((e, f, g), tt)
+calls_asked : (x y : Event) → event_call x ≡ event_call y → SameAsked (calls_of x) (calls_of y)
+calls_asked x y f = (f, tt)
 
-text_same : (x y : Call) → SameTexts (calls_of x) (calls_of y) → line_text x ≡ line_text y
+text_same : (x y : Event) → SameTexts (calls_of x) (calls_of y) → line_text x ≡ line_text y
 text_same x y same = same.0
 
 -- THE LINES
@@ -126,7 +126,7 @@ unreadable_same : (a b : Refusal) → number a ≡ number b → unreadable_text 
 unreadable_same a b e = cc
 
 -- a line of which an event is read is refused by no number
-event_read : (line : List ℕ) (event : Event) (why : Refusal) → read_event line ≡ Some event → first_no (event_questions line) ≡ Some (number why) → ⊥
+event_read : (line : List ℕ) (event : Call) (why : Refusal) → read_event line ≡ Some event → first_no (event_questions line) ≡ Some (number why) → ⊥
 event_read line event why r u = none-some (number why) (sym (ap (λ o. first_no (ask 21 (is_some o) ∷ [])) r) ∙ u)
 
 pub replays_same : (c : Contents) (f g : Controller PlanBanks meaning) → Same f g → (ls ms : List (List ℕ)) (h i : History) (k j : Controller PlanBanks meaning) (o q : List ℕ) → Replays f ls h k o → Replays g ms i j q → ls ≡ ms → Same k j × (o ≡ q)
@@ -148,7 +148,7 @@ replays_same c f g same _ _ _ _ _ _ _ _ (answered {k = k} line event answer r u 
     let parts = snoc_same _ _ line other e in
     let before = replays_same c f g same _ _ _ _ _ _ _ _ r s parts.0 in
     let one : event2 ≡ event = same_Some _ _ (sym w ∙ (ap read_event (sym parts.1) ∙ u)) in
-    let after = steps_same (calls_of answer) (calls_of answer2) k j before.0 (calls_asked event answer answer2 of (of2 ∙ ap Some one)) _ _ _ _ _ _ steps steps2 in
+    let after = steps_same (calls_of answer) (calls_of answer2) k j before.0 (calls_asked answer answer2 (of ∙ sym (of2 ∙ one))) _ _ _ _ _ _ steps steps2 in
     (after.0, ap (λ x. x ++ line_text answer) before.1 ∙ ap (λ x. q ++ x) (text_same answer answer2 after.1))
 
 -- WHOLE INPUTS

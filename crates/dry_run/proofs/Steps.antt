@@ -5,19 +5,20 @@ use Rattle.controller.specs.declared.controller.Controller.{Controller}
 use Rattle.dry_run.specs.Banks.{PlanBanks, meaning}
 use Rattle.event.specs.Answers.{unreadable_text}
 use Rattle.event.specs.Lines.{read_event, event_questions, ReadsEvent}
-use Rattle.rules.specs.declared.call.Call.{Call as Event}
+use Rattle.rules.specs.declared.call.Call.{Call}
 use Rattle.plan.specs.Contents.{Contents}
 use Rattle.plan_text.specs.Texts.{Verdict, read_text}
 use Rattle.rules.specs.Histories.{History, made, called}
 use Rattle.rules.specs.Runs.{LawfulRun, Follows}
-use Rattle.rules.specs.declared.event.Event.{Event as Call}
+use Rattle.rules.specs.declared.event.Event.{Event}
 use Rattle.text.specs.Lines.{lines_of}
 use Rattle.text.specs.Memory.{overlay}
 use Rattle.text.specs.Questions.{ask, first_no}
 use Rattle.text.specs.declared.refusal.Refusal.{Refusal}
 use Rattle.text.specs.declared.refusal.Refusal.TheVariants.{NotEvent}
 use Rattle.text.proofs.Writes.{overlay_none, overlay_more}
-use Rattle.dry_run.specs.Fed.{line_begins, Planning, Replaying, FedIn, Fed, Laid, Takes, Ends}
+use Rattle.event.specs.Laid.{Laid}
+use Rattle.dry_run.specs.Fed.{line_begins, Planning, Replaying, FedIn, Fed, Takes, Ends}
 use Rattle.dry_run.specs.Steps.{line_reserve, IsLine, LineDone, Plain, RunsOn}
 use Rattle.dry_run.specs.Made.{setup, snapshot, MadeFrom, Step}
 use Rattle.dry_run.specs.Plays.{Replays, none, unreadable, answered, Plays, PrintedBy, Printed}
@@ -101,12 +102,12 @@ module _ (text i o : List ℕ) (planning : Planning text true i o) where
 refuses_same : (a b : List ℕ) → read_event a ≡ read_event b → first_no (event_questions a) ≡ first_no (event_questions b)
 refuses_same a b e = ap (λ o. first_no (ask 21 (is_some o) ∷ [])) e
 
-pub reads_same : (a b : List ℕ) → read_event a ≡ read_event b → (r : Result Event Refusal) → ReadsEvent a r → ReadsEvent b r
+pub reads_same : (a b : List ℕ) → read_event a ≡ read_event b → (r : Result Call Refusal) → ReadsEvent a r → ReadsEvent b r
 reads_same a b e (Ok event) w = (sym (refuses_same a b e) ∙ w.0, sym e ∙ w.1)
 reads_same a b e (Err why) w = sym (refuses_same a b e) ∙ w
 
 -- one call
-pub one_call : (k next : Controller PlanBanks meaning) (call : Call) → Follows (setup k) (snapshot k) call (snapshot next) → Step k call next → RunsOn k (call ∷ []) next
+pub one_call : (k next : Controller PlanBanks meaning) (call : Event) → Follows (setup k) (snapshot k) call (snapshot next) → Step k call next → RunsOn k (call ∷ []) next
 one_call k next call follows step = λ h run. (
   called h call (snapshot next).lists,
   subst (λ x. LawfulRun x (snapshot next) (called h call (snapshot next).lists)) (sym step.setup) (follows h run.runs),
@@ -121,7 +122,7 @@ module _ (kept rest : List ℕ) (w : IsLine rest) (line : List ℕ) (e : line �
   front_taken : take (length rest - 1) rest ≡ w.front
   front_taken = ap (take (length rest - 1)) w.text ∙ take_at w.front (10 ∷ []) (length rest - 1) (omega (arith, some_rest))
 
-  pub reads_kept : (r : Result Event Refusal) → ReadsEvent (line ++ (10 ∷ [])) r → ReadsEvent (kept ++ rest) r
+  pub reads_kept : (r : Result Call Refusal) → ReadsEvent (line ++ (10 ∷ [])) r → ReadsEvent (kept ++ rest) r
   reads_kept = reads_same (line ++ (10 ∷ [])) (kept ++ rest)
       (ap (λ xs. read_event (xs ++ (10 ∷ []))) (e ∙ ap (λ xs. take 16 (kept ++ xs)) front_taken) ∙ (reads_front (kept ++ w.front) [] ∙ ap read_event (append_assoc kept w.front (10 ∷ []) ∙ ap (λ xs. kept ++ xs) (sym w.text))))
 
@@ -133,7 +134,7 @@ module _ (c : Contents) (k next : Controller PlanBanks meaning) (lines : List (L
   longer : o ++ printed ≡ preamble_text c ++ (p.answers ++ printed)
   longer = ap (λ xs. xs ++ printed) p.printed ∙ append_assoc (preamble_text c) p.answers printed
 
-  pub plays_more : (e : Result Event Refusal) → ReadsEvent line e → LineDone k e printed next → Plays c next (lines ++ (line ∷ [])) (o ++ printed)
+  pub plays_more : (e : Result Call Refusal) → ReadsEvent line e → LineDone k e printed next → Plays c next (lines ++ (line ∷ [])) (o ++ printed)
   plays_more (Err why) r (text, same) =
       let more : Plays c k (lines ++ (line ∷ [])) (o ++ printed) = record {
         begins = p.begins;
@@ -179,7 +180,7 @@ module _ (controller : Controller PlanBanks meaning) (kept i o : List ℕ) (repl
   }
 
   -- a newline, behind a line that reads as some bytes do
-  event_newline : (after : Controller PlanBanks meaning) (printed read : List ℕ) (e : Result Event Refusal) → read_event read ≡ read_event (replaying.line ++ (10 ∷ [])) → ReadsEvent read e → LineDone controller e printed after → Replaying after [] (i ++ (10 ∷ [])) (o ++ printed)
+  event_newline : (after : Controller PlanBanks meaning) (printed read : List ℕ) (e : Result Call Refusal) → read_event read ≡ read_event (replaying.line ++ (10 ∷ [])) → ReadsEvent read e → LineDone controller e printed after → Replaying after [] (i ++ (10 ∷ [])) (o ++ printed)
   event_newline after printed read e same reads does =
       let line : List ℕ = replaying.line ++ (10 ∷ []) in
       let on = plays_more replaying.contents controller after replaying.lines o replaying.plays line printed e (reads_same read line same e reads) does in
@@ -199,7 +200,7 @@ module _ (controller : Controller PlanBanks meaning) (kept i o : List ℕ) (repl
       }
 
 -- the rest of a line
-pub event_line : (controller : Controller PlanBanks meaning) (kept i o : List ℕ) → Replaying controller kept i o → (after : Controller PlanBanks meaning) (printed rest : List ℕ) (e : Result Event Refusal) → IsLine rest → ReadsEvent (kept ++ rest) e → LineDone controller e printed after → Replaying after [] (i ++ rest) (o ++ printed)
+pub event_line : (controller : Controller PlanBanks meaning) (kept i o : List ℕ) → Replaying controller kept i o → (after : Controller PlanBanks meaning) (printed rest : List ℕ) (e : Result Call Refusal) → IsLine rest → ReadsEvent (kept ++ rest) e → LineDone controller e printed after → Replaying after [] (i ++ rest) (o ++ printed)
 event_line controller kept i o replaying after printed rest e w reads does =
     let front : List ℕ = w.front in
     let on = event_keeps controller kept i o replaying (take 16 (kept ++ front)) front w.plain refl in

@@ -4,10 +4,10 @@ use Rattle.std.specs.Prelude.{◌≡◌, ℕ, ◌+◌, ◌*◌, ◌<◌, Bool, t
 use Rattle.std.specs.List.{AllByRecursion}
 use Rattle.controller.specs.declared.controller.Controller.{Controller}
 use Rattle.dry_run.specs.Banks.{PlanBanks, meaning}
+use Rattle.event.specs.Laid.{Laid}
 use Rattle.plan.specs.Contents.{Contents}
 use Rattle.plan_text.specs.Texts.{read_text}
 use Rattle.text.specs.Lines.{lines_of}
-use Rattle.text.specs.Memory.{overlay}
 use Rattle.text.specs.Questions.{Question, ask, first_no}
 use Rattle.text.specs.Refusals.{number}
 use Rattle.text.specs.declared.refusal.Refusal.{Refusal}
@@ -63,10 +63,6 @@ run_in phase = record { phase = phase }
 abbrev pub phase_behind : Option (Controller PlanBanks meaning) → Phase
 phase_behind None = Over
 phase_behind (Some controller) = Events controller []
-
--- bytes stand at a place, the end is the place behind them, and nothing else changed
-abbrev pub Laid : List ℕ → ℕ → List ℕ → ℕ → List ℕ → Type 0
-Laid old at bytes end new = (end ≡ at + length bytes) × (new ≡ overlay old at bytes)
 
 -- a piece of input was taken, and what is printed of it stands at a place
 pub record Takes (d d' : DryRun) (piece old : List ℕ) (at end : ℕ) (new : List ℕ) : Type 0 where

@@ -6,7 +6,7 @@ use Rattle.controller.specs.declared.controller.Controller.{Controller}
 use Rattle.dry_run.specs.Banks.{PlanBanks, BanksOf, meaning}
 use Rattle.plan.specs.Contents.{Contents}
 use Rattle.rules.specs.Jobs.{Setup, Snapshot}
-use Rattle.rules.specs.declared.event.Event.{Event as Call}
+use Rattle.rules.specs.declared.event.Event.{Event}
 use Rattle.rules.specs.Runs.{Begins, Fitting, Starts}
 
 abbrev pub setup : Controller PlanBanks meaning → Setup
@@ -24,5 +24,5 @@ pub record MadeFrom (c : Contents) (k : Controller PlanBanks meaning) : Type 0 w
   pub starts : Starts (setup k) (snapshot k)
 
 -- what one call makes of it
-abbrev pub Step : Controller PlanBanks meaning → Call → Controller PlanBanks meaning → Type 0
+abbrev pub Step : Controller PlanBanks meaning → Event → Controller PlanBanks meaning → Type 0
 Step k call next = Makes meaning k call next

@@ -1,14 +1,14 @@
 -- What is printed of a whole input.
 use Rattle.std.specs.Prelude.{◌≡◌, ℕ, List, [], ◌∷◌, ◌++◌, Some, Ok, Err}
 use Rattle.controller.specs.declared.controller.Controller.{Controller}
-use Rattle.event.specs.Answers.{calls_of, event_of, line_text, unreadable_text}
+use Rattle.event.specs.Answers.{calls_of, event_call, line_text, unreadable_text}
 use Rattle.event.specs.Lines.{read_event, event_questions}
-use Rattle.rules.specs.declared.call.Call.{Call as Event}
+use Rattle.rules.specs.declared.call.Call.{Call}
 use Rattle.plan.specs.Contents.{Contents}
 use Rattle.plan_text.specs.Texts.{Verdict}
 use Rattle.rules.specs.Histories.{History, made, called}
 use Rattle.rules.specs.Runs.{LawfulRun}
-use Rattle.rules.specs.declared.event.Event.{Event as Call}
+use Rattle.rules.specs.declared.event.Event.{Event}
 use Rattle.text.specs.Lines.{lines_of}
 use Rattle.text.specs.Questions.{first_no}
 use Rattle.text.specs.Refusals.{number}
@@ -18,7 +18,7 @@ use Rattle.dry_run.specs.Made.{setup, snapshot, MadeFrom, Step}
 use Rattle.dry_run.specs.Said.{behind_plan, preamble_text, refused_text, verdict}
 
 -- calls one after another, each a step of the controller and a moment of the history
-abbrev pub StepsBy : List Call → Controller PlanBanks meaning → History →
+abbrev pub StepsBy : List Event → Controller PlanBanks meaning → History →
     Controller PlanBanks meaning → History → Type 0
 StepsBy [] k h last g = (last ≡ k) × (g ≡ h)
 StepsBy (call ∷ calls) k h last g =
@@ -38,10 +38,10 @@ pub data Replays (first : Controller PlanBanks meaning) :
       → first_no (event_questions line) ≡ Some (number why)
       → Replays first (lines ++ (line ∷ [])) h k (out ++ unreadable_text why)
   answered : {lines : List (List ℕ)} {h g : History} {k next : Controller PlanBanks meaning}
-      {out : List ℕ} (line : List ℕ) (e : Event) (answer : Call)
+      {out : List ℕ} (line : List ℕ) (e : Call) (answer : Event)
       → Replays first lines h k out
       → read_event line ≡ Some e
-      → event_of answer ≡ Some e
+      → event_call answer ≡ e
       → StepsBy (calls_of answer) k h next g
       → Replays first (lines ++ (line ∷ [])) g next (out ++ line_text answer)
 

@@ -4,14 +4,14 @@ use Rattle.std.specs.Prelude.{◌≡◌, ℕ, ◌+◌, ◌*◌, ◌≤◌, List,
 use Rattle.std.specs.Prelude.{Ok, Err, Option, Result, codes, ◌==◌}
 use Rattle.std.specs.List.{AllByRecursion}
 use Rattle.controller.specs.declared.controller.Controller.{Controller}
-use Rattle.event.specs.Answers.{calls_of, event_of, line_text, unreadable_text}
+use Rattle.event.specs.Answers.{calls_of, event_call, line_text, unreadable_text}
 use Rattle.event.specs.Lines.{event_text}
-use Rattle.rules.specs.declared.call.Call.{Call as Event}
+use Rattle.rules.specs.declared.call.Call.{Call}
 use Rattle.rules.specs.Histories.{History}
 use Rattle.rules.specs.Runs.{LawfulRun}
-use Rattle.rules.specs.declared.event.Event.{Event as Call}
+use Rattle.rules.specs.declared.event.Event.{Event}
 use Rattle.text.specs.declared.refusal.Refusal.{Refusal}
-use Rattle.dry_run.specs.Fed.{Laid}
+use Rattle.event.specs.Laid.{Laid}
 use Rattle.dry_run.specs.Banks.{PlanBanks, meaning}
 use Rattle.dry_run.specs.Made.{setup, snapshot}
 use Rattle.dry_run.specs.Plays.{StepsBy}
@@ -20,19 +20,19 @@ use Rattle.dry_run.specs.declared.run.Phase.{Phase}
 use Rattle.dry_run.specs.declared.run.Phase.TheVariants.{Plan, Events, Over}
 
 -- whatever history led here, with these calls more it is that of a run that keeps the law
-abbrev pub RunsOn : Controller PlanBanks meaning → List Call → Controller PlanBanks meaning → Type 0
+abbrev pub RunsOn : Controller PlanBanks meaning → List Event → Controller PlanBanks meaning → Type 0
 RunsOn k calls next =
     (h : History) → LawfulRun (setup k) (snapshot k) h
     → (g : History) × LawfulRun (setup next) (snapshot next) g × StepsBy calls k h next g
 
 -- a line that is an event is a row of calls, and is printed with its answer; another is printed
 -- with the number of its refusal, and nothing changes
-abbrev pub LineDone : Controller PlanBanks meaning → Result Event Refusal → List ℕ →
+abbrev pub LineDone : Controller PlanBanks meaning → Result Call Refusal → List ℕ →
     Controller PlanBanks meaning → Type 0
 LineDone k (Err why) printed next = (printed ≡ unreadable_text why) × (next ≡ k)
 LineDone k (Ok e) printed next =
-    (answer : Call)
-    × (event_of answer ≡ Some e)
+    (answer : Event)
+    × (event_call answer ≡ e)
     × (printed ≡ line_text answer)
     × RunsOn k (calls_of answer) next
 
@@ -51,12 +51,12 @@ FirstLine bytes None = Plain bytes
 FirstLine bytes (Some p) = IsLine p.0 × (bytes ≡ p.0 ++ p.1)
 
 -- the size of an event's line, and of the shortest that is none
-abbrev pub line_size : Result Event Refusal → ℕ
+abbrev pub line_size : Result Call Refusal → ℕ
 line_size (Err why) = 1
 line_size (Ok e) = length (event_text e)
 
 -- a line was answered, and what is printed of it stands at a place, at most ten bytes for each of the line
-pub record LineTaken (c c' : Controller PlanBanks meaning) (event : Result Event Refusal)
+pub record LineTaken (c c' : Controller PlanBanks meaning) (event : Result Call Refusal)
     (old : List ℕ) (at end : ℕ) (new : List ℕ) : Type 0 where
   pub printed : List ℕ
   pub laid : Laid old at printed end new

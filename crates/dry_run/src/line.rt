@@ -1,61 +1,62 @@
-ghost use Rattle.std.specs.Prelude.{◌≡◌, ◌+◌, ◌*◌, ◌≤◌, length, Some};
-ghost use Rattle.event.specs.Answers.{call_of, calls_of, event_of, line_text, event_size, unreadable_text};
-ghost use Rattle.dry_run.specs.Fed.{Laid};
+ghost use Rattle.std.specs.Prelude.{◌≡◌, ◌+◌, ◌*◌, ◌≤◌, length};
+ghost use Rattle.event.specs.Answers.{calls_of, event_call, line_text, event_size, unreadable_text};
+ghost use Rattle.event.specs.Laid.{Laid};
 ghost use Rattle.dry_run.specs.Steps.{line_size, LineTaken, RunsOn};
 
 use crate::banks::PlanBanks;
-use byte_vec::byte_vec::ByteVec;
 use controller::controller::Controller;
-use event::answered::Answered;
+use event::write::{write_event, write_unreadable};
 use rules::call::Call;
-use text::memory::write_bytes;
-use text::number::push_field;
+use rules::event::{Acceptance, Event};
 use text::refusal::Refusal;
 
-// Puts an event to the controller.
+// Puts a call to the controller.
 #[tactic(auto, using(crate::proofs::Steps::one_call))]
-fn call(controller: &mut Controller<PlanBanks>, event: Call) -> Answered
-    ensures event { event_of (call_of result) ≡ Some event }
-    ensures runs { RunsOn controller.old (calls_of (call_of result)) controller.new }
+fn call(controller: &mut Controller<PlanBanks>, call: Call) -> Event
+    ensures call { event_call result ≡ call }
+    ensures runs { RunsOn controller.old (calls_of result) controller.new }
 {
-    match event {
-        Call::Release(task) => Answered::Release(task, controller.release(task)),
+    match call {
+        Call::Release(task) => match controller.release(task) {
+            Ok(number) => Event::Accepted(Acceptance::Release { task, number }),
+            Err(why) => Event::Refused(call, why),
+        },
         Call::Ask {
             task,
             resource,
             mode,
-        } => Answered::Ask {
-            task,
-            resource,
-            mode,
-            answer: controller.ask(task, resource, mode),
+        } => match controller.ask(task, resource, mode) {
+            Ok(asked) => Event::Accepted(Acceptance::Ask {
+                task,
+                resource,
+                mode,
+                asked,
+            }),
+            Err(why) => Event::Refused(call, why),
         },
-        Call::Give(task) => Answered::Give(task, controller.give(task)),
-        Call::Finish(task) => Answered::Finish(task, controller.finish(task)),
-        Call::Tick => Answered::Tick(controller.tick()),
+        Call::Give(task) => match controller.give(task) {
+            Ok(used) => Event::Accepted(Acceptance::Give { task, used }),
+            Err(why) => Event::Refused(call, why),
+        },
+        Call::Finish(task) => match controller.finish(task) {
+            Ok(finished) => Event::Accepted(Acceptance::Finish { task, finished }),
+            Err(why) => Event::Refused(call, why),
+        },
+        Call::Tick => match controller.tick() {
+            Ok(clock) => Event::Accepted(Acceptance::Tick { clock }),
+            Err(why) => Event::Refused(call, why),
+        },
     }
 }
 
-// Lays the line of an event with its answer.
+// Lays the line of an event.
 // Memory and place stay apart, here and in `take`, as in `write_bytes` of `text`.
-fn lay_answered(answered: Answered, out: &mut [u8], at: usize) -> usize
-    requires { at + 10 * event_size (call_of answered) ≤ length out.old }
-    ensures laid { Laid out.old at (line_text (call_of answered)) result out.new }
-    ensures few { result ≤ at + 10 * event_size (call_of answered) }
+fn lay_event(event: Event, out: &mut [u8], at: usize) -> usize
+    requires { at + 10 * event_size event ≤ length out.old }
+    ensures laid { Laid out.old at (line_text event) result out.new }
+    ensures few { result ≤ at + 10 * event_size event }
 {
-    answered.write(out, at).unwrap()
-}
-
-// The line of what is no event.
-#[tactic(auto, using(crate::proofs::Printed::unreadable_size))]
-fn unreadable_line(why: Refusal) -> ByteVec<64>
-    ensures text { result ≡ unreadable_text why }
-    ensures few { length result ≤ 8 }
-{
-    let mut line = ByteVec::new();
-    line.extend_from_slice(b"?,no,").unwrap();
-    push_field(&mut line, why.number() as u64, b"\n").unwrap();
-    line
+    write_event(event, out, at).unwrap()
 }
 
 // Lays the line of what is no event.
@@ -64,7 +65,7 @@ pub(crate) fn lay_unreadable(why: Refusal, out: &mut [u8], at: usize) -> usize
     ensures laid { Laid out.old at (unreadable_text why) result out.new }
     ensures few { result ≤ at + 8 }
 {
-    write_bytes(out, at, unreadable_line(why).as_slice()).unwrap()
+    write_unreadable(why, out, at).unwrap()
 }
 
 // Answers the event that a line is, or its refusal where it is none, and lays what is printed of
@@ -79,7 +80,7 @@ pub(crate) fn answer_line(
     ensures { LineTaken controller.old controller.new event out.old at result out.new }
 {
     match event {
-        Ok(event) => lay_answered(call(controller, event), out, at),
+        Ok(event) => lay_event(call(controller, event), out, at),
         Err(why) => lay_unreadable(why, out, at),
     }
 }

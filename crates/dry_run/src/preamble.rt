@@ -1,7 +1,7 @@
 ghost use Rattle.std.specs.Prelude.{◌≤◌, length};
 ghost use Rattle.plan.specs.Of.{plan_contents};
 ghost use Rattle.dry_run.specs.Banks.{BanksOf};
-ghost use Rattle.dry_run.specs.Fed.{Laid};
+ghost use Rattle.event.specs.Laid.{Laid};
 ghost use Rattle.dry_run.specs.Said.{preamble_text};
 
 use crate::banks::PlanBanks;

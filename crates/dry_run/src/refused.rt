@@ -1,7 +1,7 @@
 ghost use Rattle.std.specs.Prelude.{◌≡◌, ◌≤◌, length};
 ghost use Rattle.text.specs.Memory.{Pushes};
 ghost use Rattle.text.specs.Refusals.{number};
-ghost use Rattle.dry_run.specs.Fed.{Laid};
+ghost use Rattle.event.specs.Laid.{Laid};
 ghost use Rattle.dry_run.specs.Said.{refused_text};
 
 use byte_vec::byte_vec::ByteVec;

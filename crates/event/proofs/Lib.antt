@@ -1,3 +1,3 @@
-pub mod Answers
+pub mod Laying
 pub mod Lines
 pub mod Sizes

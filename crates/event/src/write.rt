@@ -1,213 +1,261 @@
-ghost use Rattle.std.specs.Prelude.{◌≡◌, ◌+◌, ◌*◌, ◌≤◌, [], ◌∷◌, ◌++◌, length, Some, codes, decimal};
+ghost use Rattle.std.specs.Prelude.{◌≡◌, ◌+◌, ◌*◌, ◌≤◌, [], ◌∷◌, ◌++◌, length, codes, decimal};
 ghost use Rattle.text.specs.Memory.{Writes};
-ghost use Rattle.event.specs.Answers.{call_of, event_of, refused_text, number_text, asked_text, issued_text, finished_text, answer_text, line_text, event_size};
+ghost use Rattle.rules.specs.Answers.{call_of};
+ghost use Rattle.event.specs.Answers.{refused_text, asked_text, issued_text, finished_text, accepted_text, line_text, event_size, unreadable_text};
+ghost use Rattle.rules.specs.declared.call.Call.TheVariants.{Ask};
+ghost use Rattle.event.specs.Laid.{Laid};
 ghost use Rattle.event.specs.Lines.{event_then, event_text};
 
-use crate::answered::Answered;
 use bank::request::Mode;
-use byte_vec::byte_vec::ByteVec;
 use rules::answer::{Asked, Finished, Issued};
 use rules::call::Call;
+use rules::event::{Acceptance, Event};
 use rules::refusal::Refusal as Why;
 use text::memory::write_bytes;
-use text::number::push_field;
 use text::refusal::Refusal;
 
-// Bytes for which there is room.
-fn push_bytes(line: &mut ByteVec<64>, bytes: &[u8])
-    requires { length line.old + length bytes.now ≤ 64 }
-    ensures { line.new ≡ line.old ++ bytes.now }
+/// The most bytes of a printed line, its newline included.
+pub const LINE_BYTES: usize = 64;
+
+// Lays bytes at a place where they fit.
+#[inline(always)]
+#[tactic(auto, using(text::proofs::Writes::overlay_part))]
+fn lay_bytes(out: &mut [u8], at: usize, bytes: &[u8]) -> usize
+    requires { at + length bytes.now ≤ length out.old }
+    ensures { Laid out.old at bytes.now result out.new }
 {
-    line.extend_from_slice(bytes).unwrap();
+    let end = at + bytes.len();
+    out[at..end].copy_from_slice(bytes);
+    end
 }
 
-// A number and the bytes behind it, for which there is room.
-#[tactic(auto, using(item::proofs::Sizes::number_size, std::proofs::lemmas::Grind::common_steps))]
-fn push_number(line: &mut ByteVec<64>, n: u32, behind: &[u8])
-    requires { length line.old + 10 + length behind.now ≤ 64 }
-    ensures text { line.new ≡ line.old ++ (decimal n ++ behind.now) }
+// Lays a byte.
+#[inline(always)]
+fn lay_byte(out: &mut [u8], at: usize, byte: u8) -> usize
+    requires { at + 1 ≤ length out.old }
+    ensures { Laid out.old at (byte ∷ []) result out.new }
+{
+    lay_bytes(out, at, &[byte])
+}
+
+// Lays the digits of a number, the last one behind those of a tenth.
+fn lay_number(out: &mut [u8], at: usize, n: u32) -> usize
+    requires { at + length (decimal n) ≤ length out.old }
+    ensures { Laid out.old at (decimal n) result out.new }
+{
+    if n < 10 {
+        return lay_byte(out, at, b'0' + n as u8);
+    }
+    let end = lay_number(out, at, n / 10);
+    lay_byte(out, end, b'0' + (n % 10) as u8)
+}
+
+// Lays a number between bytes.
+#[inline(always)]
+#[tactic(auto, using(item::proofs::Sizes::number_size))]
+fn lay_field(out: &mut [u8], at: usize, before: &[u8], n: u32, behind: &[u8]) -> usize
+    requires { at + length before.now + 10 + length behind.now ≤ length out.old }
+    ensures laid { Laid out.old at (before.now ++ (decimal n ++ behind.now)) result out.new }
     ensures few { length (decimal n) ≤ 10 }
 {
-    push_field(line, n as u64, behind).unwrap();
+    let end = lay_bytes(out, at, before);
+    let end = lay_number(out, end, n);
+    lay_bytes(out, end, behind)
 }
 
-// An event and a comma.
-fn push_event(line: &mut ByteVec<64>, event: Call)
-    requires { length line.old ≤ 0 }
-    ensures text { line.new ≡ line.old ++ event_then event (44 ∷ []) }
-    ensures few { length (event_text event) ≤ 26 }
+// Lays an ask and a comma.
+fn lay_ask(out: &mut [u8], at: usize, task: u32, resource: u32, mode: Mode) -> usize
+    requires { at + 26 ≤ length out.old }
+    ensures laid { Laid out.old at (event_then (Ask task resource mode) (44 ∷ [])) result out.new }
+    ensures few { length (event_text (Ask task resource mode)) ≤ 26 }
 {
-    match event {
-        Call::Release(task) => {
-            push_bytes(line, b"N,");
-            push_number(line, task, b",");
-        }
+    let end = lay_field(out, at, b"A,", task, b",");
+    match mode {
+        Mode::Write => lay_field(out, end, b"", resource, b",W,"),
+        Mode::Read => lay_field(out, end, b"", resource, b",R,"),
+    }
+}
+
+// Lays a call and a comma.
+fn lay_call(out: &mut [u8], at: usize, call: Call) -> usize
+    requires { at + 26 ≤ length out.old }
+    ensures laid { Laid out.old at (event_then call (44 ∷ [])) result out.new }
+    ensures few { length (event_text call) ≤ 26 }
+{
+    match call {
+        Call::Release(task) => lay_field(out, at, b"N,", task, b","),
         Call::Ask {
             task,
             resource,
             mode,
-        } => {
-            push_bytes(line, b"A,");
-            push_number(line, task, b",");
-            match mode {
-                Mode::Write => push_number(line, resource, b",W,"),
-                Mode::Read => push_number(line, resource, b",R,"),
-            }
-        }
-        Call::Give(task) => {
-            push_bytes(line, b"G,");
-            push_number(line, task, b",");
-        }
-        Call::Finish(task) => {
-            push_bytes(line, b"F,");
-            push_number(line, task, b",");
-        }
-        Call::Tick => push_bytes(line, b"K,"),
+        } => lay_ask(out, at, task, resource, mode),
+        Call::Give(task) => lay_field(out, at, b"G,", task, b","),
+        Call::Finish(task) => lay_field(out, at, b"F,", task, b","),
+        Call::Tick => lay_bytes(out, at, b"K,"),
     }
 }
 
-// A refusal: its number, and the task that it names, if it names one.
+// Lays a refusal: its number, and the task that it names, if it names one.
 #[tactic(auto, using(crate::proofs::Sizes::late_size))]
-fn push_refused(line: &mut ByteVec<64>, why: Why)
-    requires { length line.old ≤ 37 }
-    ensures text { line.new ≡ line.old ++ refused_text why }
+fn lay_refused(out: &mut [u8], at: usize, why: Why) -> usize
+    requires { at + 34 ≤ length out.old }
+    ensures laid { Laid out.old at (refused_text why) result out.new }
     ensures few { length (refused_text why) ≤ 17 }
 {
-    push_bytes(line, b"no,");
     match why {
         Why::Late(task) => {
-            push_number(line, why.number(), b",");
-            push_number(line, task, b"\n");
+            let end = lay_field(out, at, b"no,", why.number(), b",");
+            lay_field(out, end, b"", task, b"\n")
         }
-        _ => push_number(line, why.number(), b"\n"),
+        _ => lay_field(out, at, b"no,", why.number(), b"\n"),
     }
 }
 
-// A number or a refusal.
-fn push_count(line: &mut ByteVec<64>, answer: Result<u32, Why>)
-    requires { length line.old ≤ 26 }
-    ensures text { line.new ≡ line.old ++ number_text answer }
-    ensures few { length (number_text answer) ≤ 17 }
+// Lays what an ask came to.
+fn lay_asked(out: &mut [u8], at: usize, asked: Asked) -> usize
+    requires { at + 27 ≤ length out.old }
+    ensures laid { Laid out.old at (asked_text asked) result out.new }
+    ensures few { length (asked_text asked) ≤ 17 }
 {
-    match answer {
-        Ok(n) => push_number(line, n, b"\n"),
-        Err(why) => push_refused(line, why),
+    match asked {
+        Asked::Hold => lay_bytes(out, at, b"hold\n"),
+        Asked::Wait => lay_bytes(out, at, b"wait\n"),
+        Asked::Back => lay_bytes(out, at, b"back\n"),
     }
 }
 
-// What an ask came to.
-fn push_asked(line: &mut ByteVec<64>, answer: Result<Asked, Why>)
-    requires { length line.old ≤ 26 }
-    ensures text { line.new ≡ line.old ++ asked_text answer }
-    ensures few { length (asked_text answer) ≤ 17 }
-{
-    match answer {
-        Ok(Asked::Hold) => push_bytes(line, b"hold\n"),
-        Ok(Asked::Wait) => push_bytes(line, b"wait\n"),
-        Ok(Asked::Back) => push_bytes(line, b"back\n"),
-        Err(why) => push_refused(line, why),
-    }
-}
-
-// The request that a finish issued.
-fn push_issued(line: &mut ByteVec<64>, issued: Option<Issued>)
-    requires { length line.old ≤ 37 }
-    ensures text { line.new ≡ line.old ++ issued_text issued }
+// Lays the request that a finish issued.
+fn lay_issued(out: &mut [u8], at: usize, issued: Option<Issued>) -> usize
+    requires { at + 16 ≤ length out.old }
+    ensures laid { Laid out.old at (issued_text issued) result out.new }
     ensures few { length (issued_text issued) ≤ 16 }
 {
     match issued {
-        None => push_bytes(line, b"-\n"),
-        Some(Issued { task, holds: true }) => push_number(line, task, b",hold\n"),
-        Some(Issued { task, holds: false }) => push_number(line, task, b",wait\n"),
+        None => lay_bytes(out, at, b"-\n"),
+        Some(Issued { task, holds: true }) => lay_field(out, at, b"", task, b",hold\n"),
+        Some(Issued { task, holds: false }) => lay_field(out, at, b"", task, b",wait\n"),
     }
 }
 
-// What a finish came to, or a refusal.
-fn push_finished(line: &mut ByteVec<64>, answer: Result<Finished, Why>)
-    requires { length line.old ≤ 26 }
-    ensures text { line.new ≡ line.old ++ finished_text answer }
-    ensures few { length (finished_text answer) ≤ 27 }
+// Lays what a finish came to.
+fn lay_finished(out: &mut [u8], at: usize, finished: Finished) -> usize
+    requires { at + 27 ≤ length out.old }
+    ensures laid { Laid out.old at (finished_text finished) result out.new }
+    ensures few { length (finished_text finished) ≤ 27 }
 {
-    match answer {
-        Ok(done) => {
-            push_number(line, done.blocked, b",");
-            push_issued(line, done.issued);
+    let end = lay_field(out, at, b"", finished.blocked, b",");
+    lay_issued(out, end, finished.issued)
+}
+
+// Lays the answer to an accepted call.
+fn lay_accepted(out: &mut [u8], at: usize, accepted: Acceptance) -> usize
+    requires { at + 27 ≤ length out.old }
+    ensures laid { Laid out.old at (accepted_text accepted) result out.new }
+    ensures few { length (accepted_text accepted) ≤ 9 * length (event_text (call_of accepted)) }
+    ensures small { length (accepted_text accepted) ≤ 27 }
+{
+    match accepted {
+        Acceptance::Release { number, .. } => lay_field(out, at, b"", number, b"\n"),
+        Acceptance::Ask { asked, .. } => lay_asked(out, at, asked),
+        Acceptance::Give { used, .. } => lay_field(out, at, b"", used, b"\n"),
+        Acceptance::Finish { finished, .. } => lay_finished(out, at, finished),
+        Acceptance::Tick { clock } => lay_field(out, at, b"", clock, b"\n"),
+    }
+}
+
+// The call of an accepted one.
+fn accepted_call(accepted: Acceptance) -> Call
+    ensures { result ≡ call_of accepted }
+{
+    match accepted {
+        Acceptance::Release { task, .. } => Call::Release(task),
+        Acceptance::Ask {
+            task,
+            resource,
+            mode,
+            ..
+        } => Call::Ask {
+            task,
+            resource,
+            mode,
+        },
+        Acceptance::Give { task, .. } => Call::Give(task),
+        Acceptance::Finish { task, .. } => Call::Finish(task),
+        Acceptance::Tick { .. } => Call::Tick,
+    }
+}
+
+// Lays the line of an event.
+fn lay_line(out: &mut [u8], at: usize, event: Event) -> usize
+    requires { at + LINE_BYTES ≤ length out.old }
+    ensures laid { Laid out.old at (line_text event) result out.new }
+    ensures few { length (line_text event) ≤ 10 * event_size event }
+    ensures small { length (line_text event) ≤ LINE_BYTES }
+{
+    match event {
+        Event::Accepted(accepted) => {
+            let end = lay_call(out, at, accepted_call(accepted));
+            lay_accepted(out, end, accepted)
         }
-        Err(why) => push_refused(line, why),
-    }
-}
-
-// The answer and the newline.
-#[tactic(auto, using(crate::proofs::Answers::in_line))]
-fn push_answer(line: &mut ByteVec<64>, answered: Answered)
-    requires { length line.old ≤ 26 }
-    ensures text { line.new ≡ line.old ++ answer_text answered }
-    ensures few { length (answer_text answered) ≤ 9 * event_size (call_of answered) }
-    ensures small { length (answer_text answered) ≤ 27 }
-{
-    match answered {
-        Answered::Release(_, answer) | Answered::Give(_, answer) | Answered::Tick(answer) => {
-            push_count(line, answer)
-        }
-        Answered::Ask {
-            task: _,
-            resource: _,
-            mode: _,
-            answer,
-        } => push_asked(line, answer),
-        Answered::Finish(_, answer) => push_finished(line, answer),
-    }
-}
-
-// The line of an event with its answer.
-#[tactic(auto, using(crate::proofs::Answers::in_line))]
-fn line(answered: Answered) -> ByteVec<64>
-    ensures text { result ≡ line_text (call_of answered) }
-    ensures few { length (line_text (call_of answered)) ≤ 10 * event_size (call_of answered) }
-{
-    let mut line = ByteVec::new();
-    push_event(&mut line, answered.event());
-    push_answer(&mut line, answered);
-    line
-}
-
-// Writes the line of an event with its answer.
-fn write_line(answered: Answered, out: &mut [u8], at: usize) -> Result<usize, Refusal>
-    ensures writes { Writes out.old at (line_text (call_of answered)) result out.new }
-    ensures few { length (line_text (call_of answered)) ≤ 10 * event_size (call_of answered) }
-{
-    write_bytes(out, at, line(answered).as_slice())
-}
-
-impl Answered {
-    // The event that was answered.
-    #[tactic(auto, using(crate::proofs::Answers::in_line))]
-    fn event(self) -> Call
-        ensures { event_of (call_of self) ≡ Some result }
-    {
-        match self {
-            Answered::Release(task, _) => Call::Release(task),
-            Answered::Ask {
-                task,
-                resource,
-                mode,
-                answer: _,
-            } => Call::Ask {
-                task,
-                resource,
-                mode,
-            },
-            Answered::Give(task, _) => Call::Give(task),
-            Answered::Finish(task, _) => Call::Finish(task),
-            Answered::Tick(_) => Call::Tick,
+        Event::Refused(call, why) => {
+            let end = lay_call(out, at, call);
+            lay_refused(out, end, why)
         }
     }
+}
 
-    /// Writes the printed line at a place, and answers the place behind it.
-    pub fn write(self, out: &mut [u8], at: usize) -> Result<usize, Refusal>
-        ensures writes { Writes out.old at (line_text (call_of self)) result out.new }
-        ensures few { length (line_text (call_of self)) ≤ 10 * event_size (call_of self) }
-    {
-        write_line(self, out, at)
+// The same where memory may be too small for any line.
+#[cold]
+#[inline(never)]
+fn write_tight(event: Event, out: &mut [u8], at: usize) -> Result<usize, Refusal>
+    ensures writes { Writes out.old at (line_text event) result out.new }
+    ensures few { length (line_text event) ≤ 10 * event_size event }
+{
+    let mut line = [0; LINE_BYTES];
+    let size = lay_line(&mut line, 0, event);
+    write_bytes(out, at, &line[..size])
+}
+
+/// Writes the line of an event at a place, and answers the place behind it.
+pub fn write_event(event: Event, out: &mut [u8], at: usize) -> Result<usize, Refusal>
+    ensures writes { Writes out.old at (line_text event) result out.new }
+    ensures few { length (line_text event) ≤ 10 * event_size event }
+{
+    if out.len() < LINE_BYTES || out.len() - LINE_BYTES < at {
+        return write_tight(event, out, at);
     }
+    Ok(lay_line(out, at, event))
+}
+
+// Lays the line of what is no event.
+#[tactic(auto, using(crate::proofs::Sizes::unreadable_size))]
+fn lay_unreadable(out: &mut [u8], at: usize, why: Refusal) -> usize
+    requires { at + LINE_BYTES ≤ length out.old }
+    ensures laid { Laid out.old at (unreadable_text why) result out.new }
+    ensures few { length (unreadable_text why) ≤ 8 }
+{
+    lay_field(out, at, b"?,no,", why.number(), b"\n")
+}
+
+// The same where memory may be too small for any line.
+#[cold]
+#[inline(never)]
+fn write_unreadable_tight(why: Refusal, out: &mut [u8], at: usize) -> Result<usize, Refusal>
+    ensures writes { Writes out.old at (unreadable_text why) result out.new }
+    ensures few { length (unreadable_text why) ≤ 8 }
+{
+    let mut line = [0; LINE_BYTES];
+    let size = lay_unreadable(&mut line, 0, why);
+    write_bytes(out, at, &line[..size])
+}
+
+/// Writes the line of what is no event at a place, and answers the place behind it.
+pub fn write_unreadable(why: Refusal, out: &mut [u8], at: usize) -> Result<usize, Refusal>
+    ensures writes { Writes out.old at (unreadable_text why) result out.new }
+    ensures few { length (unreadable_text why) ≤ 8 }
+{
+    if out.len() < LINE_BYTES || out.len() - LINE_BYTES < at {
+        return write_unreadable_tight(why, out, at);
+    }
+    Ok(lay_unreadable(out, at, why))
 }

@@ -2,7 +2,8 @@ ghost use Rattle.std.specs.Prelude.{◌≡◌, ◌+◌, ◌*◌, ◌≤◌, true
 ghost use Rattle.byte_vec.specs.Bytes.{Appends};
 ghost use Rattle.event.specs.Lines.{ReadsEvent};
 ghost use Rattle.plan.specs.Of.{plan_contents};
-ghost use Rattle.dry_run.specs.Fed.{run_in, phase_behind, Laid, Takes};
+ghost use Rattle.event.specs.Laid.{Laid};
+ghost use Rattle.dry_run.specs.Fed.{run_in, phase_behind, Takes};
 ghost use Rattle.dry_run.specs.Steps.{reserve, line_reserve, line_size, AtLine, IsLine, Plain, Waits};
 ghost use Rattle.dry_run.specs.Made.{MadeFrom};
 ghost use Rattle.dry_run.specs.Said.{preamble_text, refused_text};

@@ -1,7 +1,7 @@
 use Rattle.std.proofs.Common.{◌≡◌, true, false, [], length, sym, subst}
 use Rattle.byte_vec.proofs.Room.{has_room, lacks_room}
 use Rattle.dry_run.specs.Said.{refused_text}
-use Rattle.dry_run.specs.Fed.{Laid}
+use Rattle.event.specs.Laid.{Laid}
 use Rattle.dry_run.specs.Steps.{WaitsIn}
 use Rattle.dry_run.specs.declared.run.Phase.TheVariants.{Plan, Over}
 use Rattle.dry_run.proofs.Bytes.{none_line, line_ends}

@@ -2,7 +2,7 @@ use Rattle.std.proofs.Common.{◌≡◌, false, [], ◌++◌, length, sym, ap, s
 use Rattle.std.proofs.lemmas.List.{length-take}
 use Rattle.byte_vec.proofs.Room.{has_room, lacks_room}
 use Rattle.dry_run.specs.Said.{refused_text}
-use Rattle.dry_run.specs.Fed.{Laid}
+use Rattle.event.specs.Laid.{Laid}
 use Rattle.dry_run.specs.Steps.{reserve_in, WaitsIn}
 use Rattle.dry_run.specs.declared.run.Phase.TheVariants.{Plan, Events, Over}
 use Rattle.dry_run.proofs.Bytes.{none_plain, begins_some}
