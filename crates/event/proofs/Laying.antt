@@ -1,5 +1,6 @@
 -- Bytes laid one part after another.
-use Rattle.std.proofs.Common.{◌≡◌, ℕ, ◌+◌, ◌≤◌, List, [], ◌∷◌, ◌++◌, length, decimal, sym, refl, ap, ◌∙◌, subst, append_assoc, arith, length-append}
+use Rattle.std.proofs.Common.{◌≡◌, ℕ, ◌+◌, ◌/◌, ◌%◌, ◌^◌, ◌<◌, ◌≤◌, List, [], ◌∷◌, ◌++◌, length, decimal, sym, refl, ap, ◌∙◌, subst, append_assoc, arith, length-append}
+use Rattle.std.proofs.lemmas.Fmt.{decimal_digit, decimal_step}
 use Rattle.text.specs.Memory.{overlay}
 use Rattle.text.proofs.Writes.{overlay_more}
 use Rattle.text.specs.Fields.{fields_then}
@@ -36,3 +37,12 @@ event_size_then c b =
 pub ask_text : (t r : ℕ) (m : Mode) (b : ℕ) → mode_letter m ≡ b → (65 ∷ 44 ∷ (decimal t ++ (44 ∷ []))) ++ (decimal r ++ (44 ∷ b ∷ 44 ∷ [])) ≡ event_then (Ask t r m) (44 ∷ [])
 ask_text t r m b e =
     ap (λ ds. 65 ∷ 44 ∷ ds) (append_assoc (decimal t) (44 ∷ []) (decimal r ++ (44 ∷ b ∷ 44 ∷ [])) ∙ ap (λ l. decimal t ++ (44 ∷ (decimal r ++ (44 ∷ l ∷ 44 ∷ [])))) (sym e))
+
+-- the digits of a number of two digits, and of one of more, by its tenth
+pub two_digits : (n : ℕ) → 10 ≤ n → n / 10 < 10 → decimal n ≡ (48 + n / 10) ∷ (48 + n % 10) ∷ []
+two_digits n some few = decimal_step n some (omega arith) ∙ ap (λ ds. ds ++ ((48 + n % 10) ∷ [])) (decimal_digit (n / 10) few)
+
+pub more_digits : (n : ℕ) → n < 2 ^ 64 → 10 ≤ n / 10 → decimal n ≡ decimal (n / 10 / 10) ++ ((48 + n / 10 % 10) ∷ (48 + n % 10) ∷ [])
+more_digits n small many =
+    decimal_step n (omega arith) small
+    ∙ (ap (λ ds. ds ++ ((48 + n % 10) ∷ [])) (decimal_step (n / 10) many (omega arith)) ∙ append_assoc (decimal (n / 10 / 10)) ((48 + n / 10 % 10) ∷ []) ((48 + n % 10) ∷ []))

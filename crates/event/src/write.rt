@@ -38,7 +38,28 @@ fn lay_byte(out: &mut [u8], at: usize, byte: u8) -> usize
     lay_bytes(out, at, &[byte])
 }
 
-// Lays the digits of a number, the last one behind those of a tenth.
+// Lays the digits of a number, two behind those of a hundredth.
+fn lay_digits(out: &mut [u8], at: usize, n: u32) -> usize
+    requires { at + length (decimal n) ≤ length out.old }
+    ensures { Laid out.old at (decimal n) result out.new }
+{
+    if n < 10 {
+        return lay_byte(out, at, b'0' + n as u8);
+    }
+    let tenth = n / 10;
+    if tenth < 10 {
+        return lay_bytes(out, at, &[b'0' + tenth as u8, b'0' + (n % 10) as u8]);
+    }
+    let end = lay_digits(out, at, tenth / 10);
+    lay_bytes(
+        out,
+        end,
+        &[b'0' + (tenth % 10) as u8, b'0' + (n % 10) as u8],
+    )
+}
+
+// The same, quickest for a number of one digit.
+#[inline(always)]
 fn lay_number(out: &mut [u8], at: usize, n: u32) -> usize
     requires { at + length (decimal n) ≤ length out.old }
     ensures { Laid out.old at (decimal n) result out.new }
@@ -46,8 +67,7 @@ fn lay_number(out: &mut [u8], at: usize, n: u32) -> usize
     if n < 10 {
         return lay_byte(out, at, b'0' + n as u8);
     }
-    let end = lay_number(out, at, n / 10);
-    lay_byte(out, end, b'0' + (n % 10) as u8)
+    lay_digits(out, at, n)
 }
 
 // Lays a number between bytes.
@@ -64,6 +84,7 @@ fn lay_field(out: &mut [u8], at: usize, before: &[u8], n: u32, behind: &[u8]) ->
 }
 
 // Lays an ask and a comma.
+#[inline(always)]
 fn lay_ask(out: &mut [u8], at: usize, task: u32, resource: u32, mode: Mode) -> usize
     requires { at + 26 ≤ length out.old }
     ensures laid { Laid out.old at (event_then (Ask task resource mode) (44 ∷ [])) result out.new }
@@ -77,6 +98,7 @@ fn lay_ask(out: &mut [u8], at: usize, task: u32, resource: u32, mode: Mode) -> u
 }
 
 // Lays a call and a comma.
+#[inline(always)]
 fn lay_call(out: &mut [u8], at: usize, call: Call) -> usize
     requires { at + 26 ≤ length out.old }
     ensures laid { Laid out.old at (event_then call (44 ∷ [])) result out.new }
@@ -96,6 +118,7 @@ fn lay_call(out: &mut [u8], at: usize, call: Call) -> usize
 }
 
 // Lays a refusal: its number, and the task that it names, if it names one.
+#[inline(always)]
 #[tactic(auto, using(crate::proofs::Sizes::late_size))]
 fn lay_refused(out: &mut [u8], at: usize, why: Why) -> usize
     requires { at + 34 ≤ length out.old }
@@ -112,6 +135,7 @@ fn lay_refused(out: &mut [u8], at: usize, why: Why) -> usize
 }
 
 // Lays what an ask came to.
+#[inline(always)]
 fn lay_asked(out: &mut [u8], at: usize, asked: Asked) -> usize
     requires { at + 27 ≤ length out.old }
     ensures laid { Laid out.old at (asked_text asked) result out.new }
@@ -125,6 +149,7 @@ fn lay_asked(out: &mut [u8], at: usize, asked: Asked) -> usize
 }
 
 // Lays the request that a finish issued.
+#[inline(always)]
 fn lay_issued(out: &mut [u8], at: usize, issued: Option<Issued>) -> usize
     requires { at + 16 ≤ length out.old }
     ensures laid { Laid out.old at (issued_text issued) result out.new }
@@ -138,6 +163,7 @@ fn lay_issued(out: &mut [u8], at: usize, issued: Option<Issued>) -> usize
 }
 
 // Lays what a finish came to.
+#[inline(always)]
 fn lay_finished(out: &mut [u8], at: usize, finished: Finished) -> usize
     requires { at + 27 ≤ length out.old }
     ensures laid { Laid out.old at (finished_text finished) result out.new }
@@ -148,6 +174,7 @@ fn lay_finished(out: &mut [u8], at: usize, finished: Finished) -> usize
 }
 
 // Lays the answer to an accepted call.
+#[inline(always)]
 fn lay_accepted(out: &mut [u8], at: usize, accepted: Acceptance) -> usize
     requires { at + 27 ≤ length out.old }
     ensures laid { Laid out.old at (accepted_text accepted) result out.new }
@@ -164,6 +191,7 @@ fn lay_accepted(out: &mut [u8], at: usize, accepted: Acceptance) -> usize
 }
 
 // The call of an accepted one.
+#[inline(always)]
 fn accepted_call(accepted: Acceptance) -> Call
     ensures { result ≡ call_of accepted }
 {
@@ -186,6 +214,7 @@ fn accepted_call(accepted: Acceptance) -> Call
 }
 
 // Lays the line of an event.
+#[inline(always)]
 fn lay_line(out: &mut [u8], at: usize, event: Event) -> usize
     requires { at + LINE_BYTES ≤ length out.old }
     ensures laid { Laid out.old at (line_text event) result out.new }
@@ -217,6 +246,7 @@ fn write_tight(event: Event, out: &mut [u8], at: usize) -> Result<usize, Refusal
 }
 
 /// Writes the line of an event at a place, and answers the place behind it.
+#[inline(always)]
 pub fn write_event(event: Event, out: &mut [u8], at: usize) -> Result<usize, Refusal>
     ensures writes { Writes out.old at (line_text event) result out.new }
     ensures few { length (line_text event) ≤ 10 * event_size event }
@@ -228,6 +258,7 @@ pub fn write_event(event: Event, out: &mut [u8], at: usize) -> Result<usize, Ref
 }
 
 // Lays the line of what is no event.
+#[inline(always)]
 #[tactic(auto, using(crate::proofs::Sizes::unreadable_size))]
 fn lay_unreadable(out: &mut [u8], at: usize, why: Refusal) -> usize
     requires { at + LINE_BYTES ≤ length out.old }
@@ -250,6 +281,7 @@ fn write_unreadable_tight(why: Refusal, out: &mut [u8], at: usize) -> Result<usi
 }
 
 /// Writes the line of what is no event at a place, and answers the place behind it.
+#[inline(always)]
 pub fn write_unreadable(why: Refusal, out: &mut [u8], at: usize) -> Result<usize, Refusal>
     ensures writes { Writes out.old at (unreadable_text why) result out.new }
     ensures few { length (unreadable_text why) ≤ 8 }
