@@ -99,8 +99,8 @@ steps_same : (xs ys : List Event) (k j : Controller PlanBanks meaning) → Same 
 steps_same [] [] k j same asked h i g f p q a b = (subst (λ x. Same x q) (sym a.0) (subst (Same k) (sym b.0) same), tt)
 steps_same [] (y ∷ ys) k j same asked h i g f p q a b = absurd asked
 steps_same (x ∷ xs) [] k j same asked h i g f p q a b = absurd asked
-steps_same (x ∷ xs) (y ∷ ys) k j same (f, asked) h i g f p q (next, step, steps) (next2, step2, steps2) =
-    let one = step_same k j same x y f next next2 step step2 in
+steps_same (x ∷ xs) (y ∷ ys) k j same (form, asked) h i g f p q (next, step, steps) (next2, step2, steps2) =
+    let one = step_same k j same x y form next next2 step step2 in
     let rest = steps_same xs ys next next2 one.0 asked _ _ g f p q steps steps2 in
     (rest.0, (one.1, rest.1))
 

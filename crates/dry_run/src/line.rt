@@ -19,7 +19,7 @@ fn call(controller: &mut Controller<PlanBanks>, call: Call) -> Event
     match call {
         Call::Release(task) => match controller.release(task) {
             Ok(number) => Event::Accepted(Acceptance::Release { task, number }),
-            Err(why) => Event::Refused(call, why),
+            Err(why) => Event::Refused(Call::Release(task), why),
         },
         Call::Ask {
             task,
@@ -32,19 +32,26 @@ fn call(controller: &mut Controller<PlanBanks>, call: Call) -> Event
                 mode,
                 asked,
             }),
-            Err(why) => Event::Refused(call, why),
+            Err(why) => Event::Refused(
+                Call::Ask {
+                    task,
+                    resource,
+                    mode,
+                },
+                why,
+            ),
         },
         Call::Give(task) => match controller.give(task) {
             Ok(used) => Event::Accepted(Acceptance::Give { task, used }),
-            Err(why) => Event::Refused(call, why),
+            Err(why) => Event::Refused(Call::Give(task), why),
         },
         Call::Finish(task) => match controller.finish(task) {
             Ok(finished) => Event::Accepted(Acceptance::Finish { task, finished }),
-            Err(why) => Event::Refused(call, why),
+            Err(why) => Event::Refused(Call::Finish(task), why),
         },
         Call::Tick => match controller.tick() {
             Ok(clock) => Event::Accepted(Acceptance::Tick { clock }),
-            Err(why) => Event::Refused(call, why),
+            Err(why) => Event::Refused(Call::Tick, why),
         },
     }
 }
