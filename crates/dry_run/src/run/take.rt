@@ -110,10 +110,12 @@ fn keep(text: &mut ByteVec<16383>, bytes: &[u8]) -> Result<(), Full>
     text.extend_from_slice(bytes)
 }
 
-// A whole phase is made outside of what takes a line, where the room for one would be zeroed for
-// each line.
+// A whole phase is made outside of what takes a line, where the room for one would be taken for each
+// line.
 impl DryRun {
     // No empty line has come in time.
+    #[cold]
+    #[inline(never)]
     fn refuse(&mut self, out: &mut [u8]) -> usize
         requires { 50 ≤ length out.old }
         ensures laid { Laid out.old 0 (refused_text 22 0) result out.new }
@@ -125,6 +127,8 @@ impl DryRun {
     }
 
     // An empty line ends the plan.
+    #[cold]
+    #[inline(never)]
     fn close_plan(&mut self, out: &mut [u8]) -> usize
         requires { AtLine self.old × (1040 ≤ length out.old) }
         ensures takes { Takes self.old self.new (10 ∷ []) out.old 0 result out.new }
