@@ -30,7 +30,8 @@ use Rattle.rules.proofs.Words.{words_of, nobody, numbered}
 pub late_named : (a : Setup) (h : History) (i : InvOf a h) (new : Lists) (e : Event) → Answered a (after a h) e new → LateNamed a e h
 late_named a h i new (Accepted (Acceptance.Tick n)) d = subst (NamesLate a.plan (after a h).tasks) (accepted_tick a (after a h) d.passed) (names_late a h i)
 late_named a h i new (Refused Call.Tick why) d = subst (NamesLate a.plan (after a h).tasks) (sym d.named) (names_late a h i)
-late_named a h i new _ d = tt
+late_named a h i new (Accepted _) d = refl
+late_named a h i new (Refused _ why) d = d.named
 
 -- whose request is not given back and not issued, is held back
 back_words : (t : ℕ) (h : History) → is_some (wanted t h) ≡ true → issued t h ≡ false → held_back t h ≡ true

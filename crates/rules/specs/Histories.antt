@@ -8,7 +8,7 @@ use Rattle.bank.specs.declared.request.Request.{Request}
 use Rattle.rules.specs.Jobs.{Setup, Snapshot, Jobs, blocked}
 use Rattle.rules.specs.Moves.{is_held, is_queued, is_release, is_tick, one_more_if}
 use Rattle.rules.specs.declared.answer.Asked.{Asked}
-use Rattle.rules.specs.declared.answer.Asked.TheVariants.{Back}
+use Rattle.rules.specs.declared.answer.Asked.TheVariants.{Hold, Wait, Back}
 use Rattle.rules.specs.declared.answer.Issued.{Issued}
 use Rattle.rules.specs.declared.event.Acceptance.TheVariants.{Release, Ask, Give, Finish}
 use Rattle.rules.specs.declared.event.Event.{Event}
@@ -41,8 +41,9 @@ asks t _ = None
 
 -- the request is issued where ask or finish answers hold or wait for it
 abbrev pub is_issued : Asked → Bool
+is_issued Hold = true
+is_issued Wait = true
 is_issued Back = false
-is_issued _ = true
 
 abbrev pub is_for : ℕ → Option Issued → Bool
 is_for t None = false

@@ -1,20 +1,20 @@
 -- What holds after every call of every run, over any bank, by the words of a history alone.
-use Rattle.std.specs.Prelude.{◌≡◌, ℕ, zero, suc, ◌+◌, ◌<◌, ◌≤◌, Bool, true, false, cond, not, ◌&&◌, [], length, Some, None, Ok, Err, Option, ◌==◌, nat_eq, ⊤}
+use Rattle.std.specs.Prelude.{◌≡◌, ℕ, zero, suc, ◌+◌, ◌<◌, ◌≤◌, Bool, true, false, cond, not, ◌&&◌, [], length, Some, None, Option, ◌==◌, nat_eq, ⊤}
 use Rattle.std.specs.List.{AllByRecursion}
 use Rattle.bank.specs.Lists.{count, holds_write, holds_read}
 use Rattle.bank.specs.Meaning.{Lists}
 use Rattle.bank.specs.declared.request.Mode.{Mode}
 use Rattle.plan.specs.Contents.{length_at, processors}
-use Rattle.rules.specs.Answers.{Answered}
+use Rattle.rules.specs.Answers.{Answered, call_of}
 use Rattle.rules.specs.Histories.{History, made, called, ends, lists, job, wanted, issued, holding, waiting, held_back, state, jobs_after, used, waited, job_waited, blocked_ticks_of, after}
-use Rattle.rules.specs.Holders.{TickNames}
-use Rattle.rules.specs.Jobs.{Setup, Jobs, runs, is_among_first}
+use Rattle.rules.specs.Holders.{NamesLate}
+use Rattle.rules.specs.Jobs.{Setup, Snapshot, Jobs, runs, is_among_first}
 use Rattle.rules.specs.Limits.{wait_limit}
-use Rattle.rules.specs.Refusals.{from_bank}
+use Rattle.rules.specs.Refusals.{from_bank, task_named}
 use Rattle.rules.specs.States.{is_held_back}
 use Rattle.rules.specs.declared.answer.Issued.{Issued}
 use Rattle.rules.specs.declared.call.Call.{Call}
-use Rattle.rules.specs.declared.event.Acceptance.TheVariants.{Finish, Tick}
+use Rattle.rules.specs.declared.event.Acceptance.TheVariants.{Release, Ask, Give, Finish, Tick}
 use Rattle.rules.specs.declared.event.Event.{Event}
 use Rattle.rules.specs.declared.event.Event.TheVariants.{Accepted, Refused}
 use Rattle.rules.specs.declared.task.Wanted.{Wanted}
@@ -82,11 +82,18 @@ abbrev pub BankTakes : Event → Type 0
 BankTakes (Accepted x) = ⊤
 BankTakes (Refused call why) = from_bank why ≡ false
 
--- a tick names the lowest holder that has used all of its length, and nobody where there is none
+-- whom the answer to a call names: that to a tick the lowest holder that has used all of its length,
+-- and nobody where there is none; that to any other call nobody
+abbrev pub Names : Setup → Snapshot → Call → Option ℕ → Type 0
+Names a s (Call.Release t) named = named ≡ None
+Names a s (Call.Ask t r m) named = named ≡ None
+Names a s (Call.Give t) named = named ≡ None
+Names a s (Call.Finish t) named = named ≡ None
+Names a s Call.Tick named = NamesLate a.plan s.tasks named
+
 abbrev pub LateNamed : Setup → Event → History → Type 0
-LateNamed a (Accepted (Tick n)) h = TickNames a (after a h) (Ok n)
-LateNamed a (Refused Call.Tick why) h = TickNames a (after a h) (Err why)
-LateNamed a _ h = ⊤
+LateNamed a (Accepted x) h = Names a (after a h) (call_of x) None
+LateNamed a (Refused call why) h = Names a (after a h) call (task_named why)
 
 -- of the requests held back after h, the one is issued whose job is then among the first, and none
 -- where there is none
@@ -100,8 +107,12 @@ IssuesFirst a h jobs (Some i) =
     → held_back u h ≡ true → is_among_first a.plan a.tasks jobs u ≡ true → u ≡ i.task)
 
 abbrev pub NextIssued : Setup → Event → History → Jobs → Type 0
+NextIssued a (Accepted (Release t n)) h jobs = ⊤
+NextIssued a (Accepted (Ask t r m x)) h jobs = ⊤
+NextIssued a (Accepted (Give t n)) h jobs = ⊤
 NextIssued a (Accepted (Finish t f)) h jobs = IssuesFirst a h jobs f.issued
-NextIssued a _ h jobs = ⊤
+NextIssued a (Accepted (Tick n)) h jobs = ⊤
+NextIssued a (Refused call why) h jobs = ⊤
 
 -- What each call keeps, after a history and with the bank's lists after it.
 pub record LawfulCall (a : Setup) (h : History) (e : Event) (new : Lists) : Type 0 where

@@ -96,8 +96,11 @@ bank_questions a s Tick = []
 
 -- the task that a refusal of the call names, if it names one
 abbrev pub named_by : Setup → Snapshot → Call → Option ℕ
+named_by a s (Release t) = None
+named_by a s (Ask t r m) = None
+named_by a s (Give t) = None
+named_by a s (Finish t) = None
 named_by a s Tick = late_task a s
-named_by a s _ = None
 
 abbrev pub limit_questions : Setup → ℕ → Mode → List Question
 limit_questions a r m =
