@@ -1,6 +1,7 @@
 -- A history: the calls of a run with their answers and the bank's lists after each, and what can be
 -- read off it. Nothing here knows the controller's records.
-use Rattle.std.specs.Prelude.{ℕ, Bool, true, false, cond, not, ◌&&◌, ◌||◌, is_some, Some, None, Option, ◌==◌}
+use Rattle.std.specs.Prelude.{ℕ, Bool, true, false, cond, not, ◌&&◌, ◌||◌}
+use Rattle.std.specs.Prelude.{is_some, Some, None, Option, ◌==◌}
 use Rattle.std.specs.Option.{unwrap_or, option_or}
 use Rattle.bank.specs.Lists.{request_of}
 use Rattle.bank.specs.Meaning.{Lists}

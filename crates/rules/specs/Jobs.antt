@@ -1,6 +1,7 @@
 -- Jobs in their clusters: which are ready, which run, which are among the first, which are blocked,
 -- and whose request is issued next.
-use Rattle.std.specs.Prelude.{ℕ, zero, suc, ◌+◌, Bool, cond, not, ◌&&◌, Some, None, Option, ◌==◌, nat_lt, slice_index}
+use Rattle.std.specs.Prelude.{ℕ, zero, suc, ◌+◌, Bool, cond, not, ◌&&◌, Some}
+use Rattle.std.specs.Prelude.{None, Option, ◌==◌, nat_lt, slice_index}
 use Rattle.bank.specs.Meaning.{Lists}
 use Rattle.bank.specs.Questions.{Told}
 use Rattle.plan.specs.Contents.{Contents}

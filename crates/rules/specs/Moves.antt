@@ -1,12 +1,14 @@
 -- What each call does to the controller's records.
-use Rattle.std.specs.Prelude.{◌≡◌, ℕ, ◌+◌, Bool, true, false, cond, not, ◌&&◌, List, Some, None, Option, ◌==◌}
+use Rattle.std.specs.Prelude.{◌≡◌, ℕ, ◌+◌, Bool, true, false, cond, not}
+use Rattle.std.specs.Prelude.{◌&&◌, List, Some, None, Option, ◌==◌}
 use Rattle.bank.specs.Lists.{request_of, holds}
 use Rattle.bank.specs.Meaning.{Lists}
 use Rattle.bank.specs.declared.request.Request.{Request}
 use Rattle.rules.specs.Answers.{Answered}
 use Rattle.rules.specs.Jobs.{Setup, Snapshot}
 use Rattle.rules.specs.Questions.{wanted_by}
-use Rattle.rules.specs.States.{asked_state, issued_state, wanted_of, idle_task, released_task, in_state}
+use Rattle.rules.specs.States.{asked_state, issued_state, wanted_of}
+use Rattle.rules.specs.States.{idle_task, released_task, in_state}
 use Rattle.rules.specs.declared.answer.Issued.{Issued}
 use Rattle.rules.specs.declared.event.Acceptance.TheVariants.{Release, Ask, Give, Finish, Tick}
 use Rattle.rules.specs.declared.event.Event.{Event}

@@ -1,12 +1,15 @@
 -- What holds after every call of every run, over any bank, by the words of a history alone.
-use Rattle.std.specs.Prelude.{◌≡◌, ℕ, zero, suc, ◌+◌, ◌<◌, ◌≤◌, Bool, true, false, cond, not, ◌&&◌, [], length, Some, None, Option, ◌==◌, nat_eq, ⊤}
+use Rattle.std.specs.Prelude.{◌≡◌, ℕ, zero, suc, ◌+◌, ◌<◌, ◌≤◌, Bool, true, false, cond, not}
+use Rattle.std.specs.Prelude.{◌&&◌, [], length, Some, None, Option, ◌==◌, nat_eq, ⊤}
 use Rattle.std.specs.List.{AllByRecursion}
 use Rattle.bank.specs.Lists.{count, holds_write, holds_read}
 use Rattle.bank.specs.Meaning.{Lists}
 use Rattle.bank.specs.declared.request.Mode.{Mode}
 use Rattle.plan.specs.Contents.{length_at, processors}
 use Rattle.rules.specs.Answers.{Answered, call_of}
-use Rattle.rules.specs.Histories.{History, made, called, ends, lists, job, wanted, issued, holding, waiting, held_back, state, jobs_after, used, waited, job_waited, blocked_ticks_of, after}
+use Rattle.rules.specs.Histories.{History, made, called, ends, lists, job, wanted, issued}
+use Rattle.rules.specs.Histories.{holding, waiting, held_back, state, jobs_after, used}
+use Rattle.rules.specs.Histories.{waited, job_waited, blocked_ticks_of, after}
 use Rattle.rules.specs.Holders.{NamesLate}
 use Rattle.rules.specs.Jobs.{Setup, Snapshot, Jobs, runs, is_among_first}
 use Rattle.rules.specs.Limits.{wait_limit}
@@ -82,8 +85,8 @@ abbrev pub BankTakes : Event → Type 0
 BankTakes (Accepted x) = ⊤
 BankTakes (Refused call why) = from_bank why ≡ false
 
--- whom the answer to a call names: that to a tick the lowest holder that has used all of its length,
--- and nobody where there is none; that to any other call nobody
+-- whom the answer to a call names: that to a tick the lowest holder that has used all of its
+-- length, and nobody where there is none; that to any other call nobody
 abbrev pub Names : Setup → Snapshot → Call → Option ℕ → Type 0
 Names a s (Call.Release t) named = named ≡ None
 Names a s (Call.Ask t r m) named = named ≡ None

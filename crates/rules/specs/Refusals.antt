@@ -3,7 +3,10 @@ use Rattle.std.specs.Prelude.{◌≡◌, ℕ, Bool, true, false, cond, List, Som
 use Rattle.bank.specs.Questions.{number as bank_number}
 use Rattle.text.specs.Questions.{Question, first_no}
 use Rattle.rules.specs.declared.refusal.Refusal.{Refusal}
-use Rattle.rules.specs.declared.refusal.Refusal.TheVariants.{NoTask, NoResource, NoMode, NoLength, NotIdle, ManyReleases, NotRunning, StillHolding, NotHolding, Late, ClockEnds, NoFit, Bank}
+use Rattle.rules.specs.declared.refusal.Refusal.TheVariants.{NoTask, NoResource, NoMode, NoLength}
+use Rattle.rules.specs.declared.refusal.Refusal.TheVariants.{NotIdle, ManyReleases, NotRunning}
+use Rattle.rules.specs.declared.refusal.Refusal.TheVariants.{StillHolding, NotHolding, Late}
+use Rattle.rules.specs.declared.refusal.Refusal.TheVariants.{ClockEnds, NoFit, Bank}
 
 abbrev pub number : Refusal → ℕ
 number NoTask = 1
