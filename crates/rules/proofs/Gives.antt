@@ -75,12 +75,12 @@ module _ (a : Setup) (known : a.tasks ≤ length a.plan.tasks) (e : ℕ → Bool
   pub exists : (q r : ℕ) → At (ks q) r → q < a.tasks
   exists q r at = (i.tasks q).known (has_job a n ls q (ks q) (i.tasks q) (rw at.is))
 
-  -- no holder has used more than the longest length
-  pub within : (r : ℕ) → r < a.resources → Within (longest_at a.plan r) (λ q. (ks q).used) (ls r)
-  within r lr = entries r lr (λ x. holds x ≡ true → (ks x.party).used ≤ longest_at a.plan r) (λ q x p f at h.
-      let l = (i.tasks q).in_time at.wanted at.is (held_entry q r (ks q) ls x at f ∙ h) in
+  -- where each holder is within its own length, none has used more than the longest
+  pub within : (used : ℕ → ℕ) → ((q : ℕ) (w : Wanted) → (ks q).wanted ≡ Some w → held_in q (ks q) ls ≡ true → used q ≤ length_for a.plan q w.resource) → (r : ℕ) → r < a.resources → Within (longest_at a.plan r) used (ls r)
+  within used in_time r lr = entries r lr (λ x. holds x ≡ true → used x.party ≤ longest_at a.plan r) (λ q x p f at h.
+      let l = in_time q at.wanted at.is (held_entry q r (ks q) ls x at f ∙ h) in
       let m : length_for a.plan q at.wanted.resource ≡ length_for a.plan q r = ap (length_for a.plan q) at.there in
-      let u : (ks x.party).used ≡ (ks q).used = ap (λ (z : ℕ). (ks z).used) p in
+      let u : used x.party ≡ used q = ap used p in
       omega (arith, l, m, u, length_longest a q r (omega (arith, exists q r at, known))))
 
 -- a holder gives back
@@ -178,7 +178,7 @@ module _ (a : Setup) (known : a.tasks ≤ length a.plan.tasks) (ks ks' : ℕ →
   owed_left r' l = go (cases_eq r' r)
     where
       go : (r' ≡ r) ⊎ (r' ≡ r → ⊥) → OwedAll a.told r' (longest_at a.plan r') (λ q. (ks q).used) (λ q. (ks q).waited) (ls' r')
-      go (inl e) = rw e (owed_leave a.told r (longest_at a.plan r) p (ls r) (ls' r) (λ q. (ks q).used) (λ q. (ks q).waited) (within a known nobody ks ls n i r lr) (i.sound r lr) (sound' r lr) stays (i.owed r lr))
+      go (inl e) = rw e (owed_leave a.told r (longest_at a.plan r) p (ls r) (ls' r) (λ q. (ks q).used) (λ q. (ks q).waited) (within a known nobody ks ls n i (λ q. (ks q).used) (λ q. (i.tasks q).in_time) r lr) (i.sound r lr) (sound' r lr) stays (i.owed r lr))
       go (inr ne) = rw (others r' l ne) (i.owed r' l)
 
   pub give_step : Inv a nobody ks' ls' n

@@ -15,9 +15,9 @@ use Rattle.rules.specs.Questions.{length_for}
 use Rattle.rules.specs.States.{is_ready}
 use Rattle.rules.specs.declared.task.Wanted.{Wanted}
 use Rattle.rules.proofs.Entries.{listed, request_some, request_party}
-use Rattle.rules.proofs.Gives.{At, held_entry, waits_entry, entries, exists, length_longest}
+use Rattle.rules.proofs.Gives.{At, held_entry, waits_entry, entries, within}
 use Rattle.rules.proofs.Places.{blocked_is, not_blocked_later, not_blocked_ready}
-use Rattle.rules.proofs.Waiting.{OwedAll, Within, owed_tick, owed_bound}
+use Rattle.rules.proofs.Waiting.{OwedAll, owed_tick, owed_bound}
 use Rattle.rules.proofs.Words.{TaskWords, held_in, waits_in, word_jobs, TaskKept, Inv, nobody, unfinished_job, first_jobs}
 
 -- the entry of a task is one of the list
@@ -93,13 +93,6 @@ module _ (a : Setup) (known : a.tasks ≤ length a.plan.tasks) (ks : ℕ → Tas
   in_time_lem : (q : ℕ) (w : Wanted) → (ks q).wanted ≡ Some w → held_in q (ks q) ls ≡ true → (ticking q).used ≤ length_for a.plan q w.resource
   in_time_lem q w e f = rw f (omega (arith, early q w e f))
 
-  within_tick : (r : ℕ) → r < a.resources → Within (longest_at a.plan r) (λ q. (ticking q).used) (ls r)
-  within_tick r lr = entries a known nobody ks ls n i r lr (λ x. holds x ≡ true → (ticking x.party).used ≤ longest_at a.plan r) (λ q x p f at h.
-      let l = in_time_lem q at.wanted at.is (held_entry q r (ks q) ls x at f ∙ h) in
-      let m : length_for a.plan q at.wanted.resource ≡ length_for a.plan q r = ap (length_for a.plan q) at.there in
-      let u : (ticking x.party).used ≡ (ticking q).used = ap (λ (z : ℕ). (ticking z).used) p in
-      omega (arith, l, m, u, length_longest a q r (omega (arith, exists a known nobody ks ls n i q r at, known))))
-
   owed_ticking : (r : ℕ) → r < a.resources → OwedAll a.told r (longest_at a.plan r) (λ q. (ticking q).used) (λ q. (ticking q).waited) (ls r)
   owed_ticking r lr =
       owed_tick a.told r (longest_at a.plan r) (ls r) (λ q. (ks q).used) (λ q. (ks q).waited) (λ q. (ticking q).used) (λ q. (ticking q).waited)
@@ -121,7 +114,7 @@ module _ (a : Setup) (known : a.tasks ≤ length a.plan.tasks) (ks : ℕ → Tas
           let x = entry_of_lem a n ls q (ks q) (i.tasks q) w e f in
           let at : At (ks q) w.resource = record { wanted = w; is = e; there = refl; issued = f } in
           let b = all_at (λ x. holds x ≡ false → (ticking x.party).waited ≤ a.told.limit w.resource x.mode * longest_at a.plan w.resource) q (ls w.resource) x.0
-          (owed_bound a.told w.resource (longest_at a.plan w.resource) (ls w.resource) (λ q. (ticking q).used) (λ q. (ticking q).waited) (within_tick w.resource lr) (i.sound w.resource lr) (owed_ticking w.resource lr)) x.1 in
+          (owed_bound a.told w.resource (longest_at a.plan w.resource) (ls w.resource) (λ q. (ticking q).used) (λ q. (ticking q).waited) (within a known nobody ks ls n i (λ q. (ticking q).used) in_time_lem w.resource lr) (i.sound w.resource lr) (owed_ticking w.resource lr)) x.1 in
           let off : holds x.0 ≡ false = not-true (holds x.0) (sym (waits_entry q w.resource (ks q) ls x.0 at x.1) ∙ h) in
           let party : x.0.party ≡ q = (request_party q (ls w.resource) x.0 x.1).0 in
           let mode : x.0.mode ≡ w.mode = (i.tasks q).mode w e x.0 x.1 in
