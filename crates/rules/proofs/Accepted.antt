@@ -6,7 +6,7 @@ use Rattle.text.specs.Questions.{first_no}
 use Rattle.bank.specs.Questions.{knows}
 use Rattle.bank.specs.declared.request.Mode.{Mode}
 use Rattle.plan.specs.Contents.{length_at}
-use Rattle.rules.specs.Jobs.{Setup, Snapshot, Jobs, jobs_in, runs, ready, unfinished, is_among_first, before, processors_for}
+use Rattle.rules.specs.Jobs.{Setup, Snapshot, Jobs, jobs_in, ready, unfinished, is_among_first, before, processors_for}
 use Rattle.rules.specs.Questions.{questions, work_questions, late_task}
 use Rattle.rules.specs.States.{is_idle, is_holding}
 use Rattle.rules.specs.declared.call.Call.TheVariants.{Release, Ask, Give, Finish, Tick}

@@ -5,7 +5,7 @@ use Rattle.plan.specs.Contents.{Contents, length_at}
 use Rattle.rules.specs.Answers.{ticked}
 use Rattle.rules.specs.Histories.{History, lists, job, wanted, issued, waiting, is_suspended_after, used, state, state_of, entry_of, after}
 use Rattle.rules.specs.Holders.{HasLeft, NamesLate, TickNames, IsNearestEnd, ticks_left, task_and_left, nearest_of}
-use Rattle.rules.specs.Jobs.{Setup, Snapshot, least_below}
+use Rattle.rules.specs.Jobs.{Setup, least_below}
 use Rattle.rules.specs.Moves.{is_queued}
 use Rattle.rules.specs.Promises.{LateNamed}
 use Rattle.rules.specs.Questions.{length_for, late, late_in, late_task}

@@ -5,7 +5,7 @@ use Rattle.text.specs.Questions.{first_no}
 use Rattle.bank.specs.Meaning.{Lists, Sound}
 use Rattle.plan.specs.Contents.{processors}
 use Rattle.rules.specs.Answers.{released, Answered}
-use Rattle.rules.specs.Histories.{History, called, lists, releases, job, wanted, issued, used, waited, state_of, jobs_after, after, ends}
+use Rattle.rules.specs.Histories.{History, called, lists, releases, job, wanted, issued, state_of, jobs_after, after, ends}
 use Rattle.rules.specs.Jobs.{Setup, is_among_first, cluster_of}
 use Rattle.rules.specs.Moves.{moved_task}
 use Rattle.rules.specs.Questions.{work_questions}

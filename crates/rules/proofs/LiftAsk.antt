@@ -8,7 +8,7 @@ use Rattle.plan.specs.Contents.{length_at}
 use Rattle.text.specs.Questions.{first_no}
 use Rattle.rules.specs.Questions.{work_questions}
 use Rattle.rules.specs.Answers.{asked, Answered, Asks, Issues}
-use Rattle.rules.specs.Histories.{History, called, lists, releases, job, wanted, issued, used, waited, state_of, jobs_after, after, is_issued}
+use Rattle.rules.specs.Histories.{History, called, lists, releases, job, wanted, issued, used, state_of, jobs_after, after, is_issued}
 use Rattle.rules.specs.Jobs.{Setup, is_among_first}
 use Rattle.rules.specs.Moves.{is_held}
 use Rattle.rules.specs.States.{asked_state, issued_state, in_state}

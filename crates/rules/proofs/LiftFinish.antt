@@ -4,7 +4,7 @@ use mathlib.Core.Path.{fun_ext}
 use Rattle.std.proofs.lemmas.Bool.{eqb-true, eqb-false, eq-eqb, ne_eqb, false≢true}
 use Rattle.bank.specs.Meaning.{Lists}
 use Rattle.rules.specs.Answers.{finished, Answered, IssuesNext, Issues}
-use Rattle.rules.specs.Histories.{History, called, lists, releases, job, wanted, issued, used, waited, state_of, jobs_after, after}
+use Rattle.rules.specs.Histories.{History, called, lists, releases, job, wanted, issued, used, state_of, jobs_after, after}
 use Rattle.rules.specs.Jobs.{Setup, Jobs, jobs_of, is_among_first, cluster_of, ended, next_of, next_issued}
 use Rattle.rules.specs.Moves.{is_held, issued_task}
 use Rattle.rules.specs.Questions.{wanted_by}
