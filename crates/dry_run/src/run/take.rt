@@ -86,6 +86,7 @@ fn read_line(kept: &ByteVec<16>, rest: &[u8]) -> Result<Call, Refusal>
 }
 
 // A line of events, or the rest of one.
+#[inline(always)]
 fn take_event_line(
     controller: &mut Controller<PlanBanks>,
     kept: &mut ByteVec<16>,
@@ -114,8 +115,6 @@ fn keep(text: &mut ByteVec<16383>, bytes: &[u8]) -> Result<(), Full>
 // line.
 impl DryRun {
     // No empty line has come in time.
-    #[cold]
-    #[inline(never)]
     fn refuse(&mut self, out: &mut [u8]) -> usize
         requires { 50 ≤ length out.old }
         ensures laid { Laid out.old 0 (refused_text 22 0) result out.new }
@@ -127,8 +126,6 @@ impl DryRun {
     }
 
     // An empty line ends the plan.
-    #[cold]
-    #[inline(never)]
     fn close_plan(&mut self, out: &mut [u8]) -> usize
         requires { AtLine self.old × (1040 ≤ length out.old) }
         ensures takes { Takes self.old self.new (10 ∷ []) out.old 0 result out.new }
@@ -150,6 +147,7 @@ impl DryRun {
     }
 
     // A line of the input, or the rest of one.
+    #[inline(always)]
     pub(crate) fn take_line(&mut self, line: &[u8], out: &mut [u8], at: usize) -> usize
         requires { IsLine line.now × Waits self.old at × (at + reserve self.old + 10 * length line.now ≤ length out.old) }
         ensures takes { Takes self.old self.new line.now out.old at result out.new }
