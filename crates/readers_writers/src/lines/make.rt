@@ -13,7 +13,10 @@ fn count_in(resources: &[Resource]) -> u32
     ensures count { result ≡ reader_writers_of resources.now }
     ensures few { result ≤ 16 }
 {
-    resources.iter().filter(|resource| matches!(resource, Resource::ReaderWriter)).count() as u32
+    resources
+        .iter()
+        .filter(|resource| matches!(resource, Resource::ReaderWriter))
+        .count() as u32
 }
 
 impl ReadersWriters {
