@@ -1,14 +1,14 @@
 -- A resource's active requests, a list in order of entry.
 use Rattle.std.specs.Prelude.{ℕ, ◌+◌, Bool, true, false, cond, not, ◌&&◌, ◌||◌, List, [], ◌∷◌, Some, None, Option, ◌==◌, nat_eq}
 use Rattle.bank.specs.declared.request.Mode.{Mode}
-use Rattle.bank.specs.declared.request.Mode.TheVariants.{Write}
+use Rattle.bank.specs.declared.request.Mode.TheVariants.{Write, Read}
 use Rattle.bank.specs.declared.request.Request.{Request}
 use Rattle.bank.specs.declared.request.Standing.{Standing}
 use Rattle.bank.specs.declared.request.Standing.TheVariants.{Holds, Waits}
 
 abbrev pub is_write : Mode → Bool
 is_write Write = true
-is_write _ = false
+is_write Read = false
 
 -- how many requests pass a test, and whether one does
 abbrev pub count : (Request → Bool) → List Request → ℕ

@@ -36,16 +36,20 @@ HandedBack claim suspended (Err back) = (suspended ≡ true) × (back.0 ≡ clai
 
 module _ {X : Type 0} (b : Ghosts X) (old : Controller X b) where
   -- an ask with a claim is an ask; the claim is for the task that asked
-  pub record AsksWithClaim (t r : ℕ) (m : Mode) (result : Result (Asked × Claim) Refusal) (new : Controller X b) : Type 0 where
+  pub record AsksWithClaim (t r : ℕ) (m : Mode) (result : Result (Asked × Claim) Refusal)
+      (new : Controller X b) : Type 0 where
     pub makes : Makes b old (asked t r m (asked_of result)) new
     pub claim : ClaimFor t result
 
   -- a give with a claim is a give of its task; whether the claim comes back is known by the record
-  pub record GivesWithClaim (claim : Claim) (result : Result (Result ℕ Refusal) (Claim × Refusal)) (new : Controller X b) : Type 0 where
+  pub record GivesWithClaim (claim : Claim)
+      (result : Result (Result ℕ Refusal) (Claim × Refusal)) (new : Controller X b) : Type 0 where
     pub makes : Makes b old (gave claim.task (gave_of result)) new
     pub back : HandedBack claim (is_suspended ((snapshot_of b old).tasks claim.task).state) result
 
   -- the law of runs, and whether the claim comes back by the history that led here
-  pub record FollowsWithClaim (claim : Claim) (result : Result (Result ℕ Refusal) (Claim × Refusal)) (new : Controller X b) : Type 0 where
+  pub record FollowsWithClaim (claim : Claim)
+      (result : Result (Result ℕ Refusal) (Claim × Refusal)) (new : Controller X b) : Type 0 where
     pub follows : FollowsRuns b old (gave claim.task (gave_of result)) new
-    pub back : (h : History) → Runs (setup_of b old) (snapshot_of b old) h → HandedBack claim (is_suspended_after claim.task h) result
+    pub back : (h : History) → Runs (setup_of b old) (snapshot_of b old) h →
+        HandedBack claim (is_suspended_after claim.task h) result

@@ -42,9 +42,6 @@ is_next a s t u e = go (least_below test value a.tasks) refl (sym e)
         subst (IsNext a s t) same.1 (of v found.1 (and_parts _ _ found.0).0 (eqb t v) refl)
 
 module _ (a : Setup) (s : Snapshot) (t : ℕ) (own : first_no (questions a s (Finish t)) ≡ None) where
-  pub finish_plain : (blocked : ℕ) → None ≡ next_issued a s t → blocked ≡ (s.tasks t).blocked → Answered a s (finished t (Ok (record { blocked = blocked; issued = None }))) s.lists
-  finish_plain blocked e same = record { passed = own; gives = (same, subst (λ (o : Option ℕ). IssuesNext a s o None s.lists) e refl) }
-
   pub finish_issued : (blocked u : ℕ) (holds : Bool) (w : Wanted) (new : Lists) → Some u ≡ next_issued a s t → blocked ≡ (s.tasks t).blocked → w ≡ wanted_by s u → Enters a.told w.resource u w.mode (Ok holds) s.lists new → Answered a s (finished t (Ok (record { blocked = blocked; issued = Some (record { task = u; holds = holds }) }))) new
   finish_issued blocked u holds w new e same wanted entered =
       record { passed = own; gives = (same, subst (λ (o : Option ℕ). IssuesNext a s o (Some (record { task = u; holds = holds })) new) e (refl, subst (λ (x : Wanted). Issues a s u x holds new) wanted entered)) }

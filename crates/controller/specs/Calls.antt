@@ -47,13 +47,16 @@ KeepsRefused (Refused call why) old new = new ≡ old
 
 -- the plan, what the bank tells, and how many tasks and resources there are, stay; the answer and
 -- every record are those of the rule book; the bank changes as its maker makes known
-pub record Makes {X : Type 0} (b : Ghosts X) (old : Controller X b) (e : Event) (new : Controller X b) : Type 0 where
+pub record Makes {X : Type 0} (b : Ghosts X) (old : Controller X b) (e : Event)
+    (new : Controller X b) : Type 0 where
   pub setup : setup_of b new ≡ setup_of b old
   pub does : Does (setup_of b old) (snapshot_of b old) e (snapshot_of b new)
-  pub only : ChangesOnly (may_change (snapshot_of b old) e) (snapshot_of b old).tasks (snapshot_of b new).tasks
+  pub only : ChangesOnly (may_change (snapshot_of b old) e)
+      (snapshot_of b old).tasks (snapshot_of b new).tasks
   pub bank : BankChanges b (snapshot_of b old) e old.bank new.bank
   pub keeps : KeepsRefused e old new
 
 -- the law of runs: whatever calls led here, with this one they keep it
-abbrev pub FollowsRuns : {X : Type 0} (b : Ghosts X) → Controller X b → Event → Controller X b → Type 0
+abbrev pub FollowsRuns : {X : Type 0} (b : Ghosts X) → Controller X b → Event →
+    Controller X b → Type 0
 FollowsRuns b old e new = Follows (setup_of b old) (snapshot_of b old) e (snapshot_of b new)

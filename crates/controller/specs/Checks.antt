@@ -1,5 +1,6 @@
 -- A call's own questions, what is checked by them, and where a call moves its task.
-use Rattle.std.specs.Prelude.{◌≡◌, ℕ, Bool, false, not, List, [], ◌∷◌, Some, None, Ok, Err, Result, nat_lt}
+use Rattle.std.specs.Prelude.{◌≡◌, ℕ, Bool, false, not, List, [], ◌∷◌, Some, None, Ok, Err, Result}
+use Rattle.std.specs.Prelude.{nat_lt}
 use Rattle.text.specs.Questions.{Question, ask, first_no}
 use Rattle.rules.specs.Jobs.{Setup, Snapshot, jobs_in, runs}
 use Rattle.rules.specs.Refusals.{number, from_bank, task_named}

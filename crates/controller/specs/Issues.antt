@@ -1,5 +1,6 @@
 -- What a call does to the bank.
-use Rattle.std.specs.Prelude.{◌≡◌, ℕ, Bool, true, false, cond, List, [], Some, None, Ok, Err, Result, slice_index_or}
+use Rattle.std.specs.Prelude.{◌≡◌, ℕ, Bool, true, false, cond, List, [], Some, None, Ok, Err}
+use Rattle.std.specs.Prelude.{Result, slice_index_or}
 use Rattle.bank.specs.Meaning.{Lists, Enters}
 use Rattle.bank.specs.Questions.{Told, enter_questions}
 use Rattle.bank.specs.declared.refusal.Refusal.{Refusal as BankRefusal}
@@ -29,10 +30,12 @@ Asks told first t r m (Err why) old new =
 -- the records after a departure from r, where xs are now the requests there
 pub record LetsIn (n r : ℕ) (xs : List Request) (old new : List Task) : Type 0 where
   pub tasks : (q : ℕ) → tasks_in n new q ≡ let_in r xs q (tasks_in n old q)
-  pub blocked : (q : ℕ) → (slice_index_or new q idle_task).blocked ≡ (slice_index_or old q idle_task).blocked
+  pub blocked : (q : ℕ)
+      → (slice_index_or new q idle_task).blocked ≡ (slice_index_or old q idle_task).blocked
 
 -- what is known of how a bank changes by an ask
-abbrev pub AskChanges : {X : Type 0} → (ℕ → ℕ → Mode → Result Bool BankRefusal → X → X → Type 0) → ℕ → ℕ → Mode → Result Asked Refusal → X → X → Type 0
+abbrev pub AskChanges : {X : Type 0} → (ℕ → ℕ → Mode → Result Bool BankRefusal → X → X → Type 0)
+    → ℕ → ℕ → Mode → Result Asked Refusal → X → X → Type 0
 AskChanges entered t r m (Ok Hold) old new = entered r t m (Ok true) old new
 AskChanges entered t r m (Ok Wait) old new = entered r t m (Ok false) old new
 AskChanges entered t r m (Ok Back) old new = new ≡ old

@@ -21,4 +21,6 @@ abbrev pub TellsLimit : Setup → ℕ → Mode → Result ℕ Refusal → Type 0
 TellsLimit a r m (Ok n) =
     (first_no (limit_questions a r m) ≡ None)
     × (n ≡ wait_limit a.told a.plan r m)
-TellsLimit a r m (Err why) = (first_no (limit_questions a r m) ≡ Some (number why)) × (from_bank why ≡ false)
+TellsLimit a r m (Err why) =
+    (first_no (limit_questions a r m) ≡ Some (number why))
+    × (from_bank why ≡ false)

@@ -1,7 +1,7 @@
 //! A controller: tasks that share resources by a plan, over any bank.
 #![tactic(auto)]
 
-/// The calls for a task, and which state admits which.
+/// Where a call moves its task, or which condition it fails.
 pub mod call;
 /// A controller and its calls.
 pub mod controller;

@@ -79,13 +79,6 @@ none_line v line w some = subst (λ l. before_empty v l ≡ None) (sym w.text) (
 pub line_ends : (v : Bool) (line : List ℕ) → IsLine line → line_begins v line ≡ true
 line_ends v line w = ap (line_begins v) w.text ∙ begins_more v w.front (10 ∷ [])
 
-pub one_newline : (line : List ℕ) → IsLine line → length line ≡ 1 → line ≡ 10 ∷ []
-one_newline line w e = from w.front w.text
-  where
-    from : (front : List ℕ) → line ≡ front ++ (10 ∷ []) → line ≡ 10 ∷ []
-    from [] f = f
-    from (x ∷ xs) f = absurd (omega (arith, length_push xs 10, ap length f))
-
 -- the plan's part, where its empty line has come
 pub part_found : (text more : List ℕ) → length text < 16384 → before_empty true text ≡ None → line_begins true text ≡ true → plan_part (text ++ (10 ∷ more)) ≡ Some text
 part_found text more few n b =

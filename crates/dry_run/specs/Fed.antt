@@ -1,6 +1,7 @@
 -- A dry run in the middle of its input.
 use Prim.Native.Char.{code}
-use Rattle.std.specs.Prelude.{◌≡◌, ℕ, ◌+◌, ◌*◌, ◌<◌, Bool, true, false, List, [], ◌∷◌, ◌++◌, length, take, Some, None, Ok, Err, Option, Result, ◌==◌, nat_le}
+use Rattle.std.specs.Prelude.{◌≡◌, ℕ, ◌+◌, ◌*◌, ◌<◌, Bool, true, false, List, [], ◌∷◌, ◌++◌, length}
+use Rattle.std.specs.Prelude.{take, Some, None, Ok, Err, Option, Result, ◌==◌, nat_le}
 use Rattle.std.specs.List.{AllByRecursion}
 use Rattle.controller.specs.declared.controller.Controller.{Controller}
 use Rattle.dry_run.specs.Banks.{PlanBanks, meaning}
@@ -32,7 +33,8 @@ pub record Planning (text : List ℕ) (begun : Bool) (input out : List ℕ) : Ty
 
 -- the plan was accepted, and lines of events come behind it: the whole ones were answered, and the
 -- last one goes on
-pub record Replaying (controller : Controller PlanBanks meaning) (kept input out : List ℕ) : Type 0 where
+pub record Replaying (controller : Controller PlanBanks meaning)
+    (kept input out : List ℕ) : Type 0 where
   pub text : List ℕ
   pub contents : Contents
   pub events : List ℕ

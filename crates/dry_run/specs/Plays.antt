@@ -17,7 +17,7 @@ use Rattle.dry_run.specs.Banks.{PlanBanks, meaning}
 use Rattle.dry_run.specs.Made.{setup, snapshot, MadeFrom, Step}
 use Rattle.dry_run.specs.Said.{behind_plan, preamble_text, refused_text, verdict}
 
--- calls one after another, each a step of the controller and a moment of the history
+-- calls one after another, each a step of the controller and a call of the history
 abbrev pub StepsBy : List Event → Controller PlanBanks meaning → History →
     Controller PlanBanks meaning → History → Type 0
 StepsBy [] k h last g = (last ≡ k) × (g ≡ h)
@@ -32,8 +32,8 @@ StepsBy (call ∷ calls) k h last g =
 pub data Replays (first : Controller PlanBanks meaning) :
     List (List ℕ) → History → Controller PlanBanks meaning → List ℕ → Type 0 where
   none : Replays first [] (made (snapshot first).lists) first []
-  unreadable : {lines : List (List ℕ)} {h : History} {k : Controller PlanBanks meaning} {out : List ℕ}
-      (line : List ℕ) (why : Refusal)
+  unreadable : {lines : List (List ℕ)} {h : History} {k : Controller PlanBanks meaning}
+      {out : List ℕ} (line : List ℕ) (why : Refusal)
       → Replays first lines h k out
       → first_no (event_questions line) ≡ Some (number why)
       → Replays first (lines ++ (line ∷ [])) h k (out ++ unreadable_text why)

@@ -1,5 +1,6 @@
 -- What the program reads of its input, and what it prints.
-use Rattle.std.specs.Prelude.{ℕ, ◌+◌, Bool, true, false, cond, List, [], ◌∷◌, ◌++◌, length, take, drop, is_some, Some, None, Ok, Err, codes, decimal, Option, ◌==◌}
+use Rattle.std.specs.Prelude.{ℕ, ◌+◌, Bool, true, false, cond, List, [], ◌∷◌, ◌++◌, length, take}
+use Rattle.std.specs.Prelude.{drop, is_some, Some, None, Ok, Err, codes, decimal, Option, ◌==◌}
 use Rattle.std.specs.Option.{unwrap_or, option_map}
 use Prim.Native.Char.{code}
 use Rattle.limits.specs.Lines.{limits_text}

@@ -1,6 +1,7 @@
 -- What one line does, and how much may be printed.
 use Prim.Native.Char.{code}
-use Rattle.std.specs.Prelude.{◌≡◌, ℕ, ◌+◌, ◌*◌, ◌≤◌, List, ◌++◌, length, min, true, false, Some, None}
+use Rattle.std.specs.Prelude.{◌≡◌, ℕ, ◌+◌, ◌*◌, ◌≤◌, List, ◌++◌, length, min, true, false, Some}
+use Rattle.std.specs.Prelude.{None}
 use Rattle.std.specs.Prelude.{Ok, Err, Option, Result, codes, ◌==◌}
 use Rattle.std.specs.List.{AllByRecursion}
 use Rattle.controller.specs.declared.controller.Controller.{Controller}
@@ -20,7 +21,8 @@ use Rattle.dry_run.specs.declared.run.Phase.{Phase}
 use Rattle.dry_run.specs.declared.run.Phase.TheVariants.{Plan, Events, Over}
 
 -- whatever history led here, with these calls more it is that of a run that keeps the law
-abbrev pub RunsOn : Controller PlanBanks meaning → List Event → Controller PlanBanks meaning → Type 0
+abbrev pub RunsOn : Controller PlanBanks meaning → List Event → Controller PlanBanks meaning →
+    Type 0
 RunsOn k calls next =
     (h : History) → LawfulRun (setup k) (snapshot k) h
     → (g : History) × LawfulRun (setup next) (snapshot next) g × StepsBy calls k h next g
@@ -55,7 +57,8 @@ abbrev pub line_size : Result Call Refusal → ℕ
 line_size (Err why) = 1
 line_size (Ok e) = length (event_text e)
 
--- a line was answered, and what is printed of it stands at a place, at most ten bytes for each of the line
+-- a line was answered, and what is printed of it stands at a place, at most ten bytes for each of
+-- the line
 pub record LineTaken (c c' : Controller PlanBanks meaning) (event : Result Call Refusal)
     (old : List ℕ) (at end : ℕ) (new : List ℕ) : Type 0 where
   pub printed : List ℕ

@@ -29,5 +29,5 @@ pub struct DryRun {
 pub mod feed;
 /// A dry run begins.
 pub mod new;
-/// What one byte does.
+/// What a line does, and bytes that end none.
 pub mod take;

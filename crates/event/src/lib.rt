@@ -1,4 +1,4 @@
-//! An event of a dry run, read from its line, and the line that is printed of it with its answer.
+//! Event lines: a line is read as a call, and an event, a call with its answer, is printed as one.
 #![tactic(auto)]
 
 /// From a line to its call.

@@ -8,6 +8,7 @@ use byte_vec::byte_vec::ByteVec;
 
 /// The tables of a plan or of a draft. Equal tables are equal values.
 // A `ByteVec<N>` is a table of N places together with its count: the places behind the count are 0.
+// So is the list of resources.
 #[derive(Clone, Copy, Debug, PartialEq, Eq)]
 pub struct Tables {
     pub(crate) clusters: ByteVec<8>,

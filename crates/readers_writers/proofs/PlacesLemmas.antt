@@ -29,9 +29,6 @@ module _ (f : Entry → Bool) where
   place_some [] = refl
   place_some (e ∷ es) = let more = place_some es in ⊎_elim (λ t. let k = place_here e es t in grind (arith, nat_tests)) (λ t. let k = place_there e es t in grind (arith, nat_tests)) (cases_Bool (f e))
 
-  pub place_within : (es : List Entry) → some f es ≡ true → place_of f es < length es
-  place_within es z = ltb-true _ _ (place_some es ∙ z)
-
 pub removed_at : (p : ℕ) (es : List Entry) → some (holder_of p) es ≡ true → removed p es ≡ take (place_of (holder_of p) es) es ++ drop (suc (place_of (holder_of p) es)) es
 removed_at p [] z = refl
 removed_at p (e ∷ es) z =

@@ -80,17 +80,6 @@ count_some p (suc n) = go (p n) refl (count_some p n)
     go false e (inl z) = inl (omega arith)
     go false e (inr f) = let lt = f.1 in inr (f.0, omega arith, f.2)
 
--- the first number apart from the others
-pub count_front : (f : ℕ → Bool) (n : ℕ) → count_below f (suc n) ≡ cond (f 0) 1 0 + count_below (λ i. f (suc i)) n
-count_front f zero = refl
-count_front f (suc n) = omega (arith, count_front f n)
-
--- the elements that pass are counted by their places
-pub count_list : {X : Type 0} (p : X → Bool) (xs : List X) (d : X) → count_by p xs ≡ count_below (λ i. p (get_or xs i d)) (length xs)
-count_list p [] d = refl
-count_list p (x ∷ xs) d =
-    sum_by-cons (λ y. cond (p y) 1 0) x xs ∙ ap (λ k. cond (p x) 1 0 + k) (count_list p xs d) ∙ sym (count_front (λ i. p (get_or (x ∷ xs) i d)) (length xs))
-
 -- all below n pass
 pub all_below_lem : (test : ℕ → Bool) (n : ℕ) → all_below test n ≡ true → (k : ℕ) → k < n → test k ≡ true
 all_below_lem test zero e k lt = absurd (omega arith)

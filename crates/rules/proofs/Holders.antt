@@ -4,7 +4,7 @@ use Rattle.std.proofs.lemmas.Bool.{le-leb, leb-true, false≢true, both_ways, ca
 use Rattle.plan.specs.Contents.{Contents, length_at}
 use Rattle.rules.specs.Answers.{ticked}
 use Rattle.rules.specs.Histories.{History, lists, job, wanted, issued, waiting, is_suspended_after, used, state, state_of, entry_of, after}
-use Rattle.rules.specs.Holders.{HasLeft, NamesLate, TickNames, IsNearestEnd, ticks_left, task_and_left, nearest_of}
+use Rattle.rules.specs.Holders.{HasLeft, NamesLate, IsNearestEnd, ticks_left, task_and_left, nearest_of}
 use Rattle.rules.specs.Jobs.{Setup, least_below}
 use Rattle.rules.specs.Moves.{is_queued}
 use Rattle.rules.specs.Promises.{LateNamed}
@@ -116,11 +116,6 @@ module _ (a : Setup) (h : History) (i : InvOf a h) where
         where
           not_below : (u : ℕ) → late a (after a h) u ≡ true → ((k : ℕ) → k < t → late a (after a h) k ≡ false) → t ≤ u
           not_below u f low = not_less t u (λ lt. both_ways (late a (after a h) u) (low u lt) f)
-
--- what a tick names, by its answer
-pub tick_names : (a : Setup) (h : History) (x : Result ℕ Refusal) → LateNamed a (ticked x) h → TickNames a (after a h) x
-tick_names a h (Ok n) e = e
-tick_names a h (Err why) e = e
 
 -- a task waits or is held back, by its record and by its words
 pub suspended_words : (a : Setup) (n : ℕ) (h : History) (t : ℕ) → TaskKept a n (lists h) t (words_of a h t) → is_suspended (state t h) ≡ is_suspended_after t h

@@ -33,11 +33,6 @@ module _ (p : Contents) (tasks : ℕ → Task) where
   IsNearestEnd None = (t : ℕ) → is_holding (tasks t).state ≡ false
   IsNearestEnd (Some x) = Nearest x.0 x.1
 
--- who is named by the answer to a tick
-abbrev pub TickNames : Setup → Snapshot → Result ℕ Refusal → Type 0
-TickNames a s (Ok n) = NamesLate a.plan s.tasks None
-TickNames a s (Err why) = NamesLate a.plan s.tasks (task_named why)
-
 -- The same, as it is found.
 
 abbrev pub ticks_left : Contents → (ℕ → Task) → ℕ → ℕ

@@ -14,7 +14,7 @@ use Rattle.rules.specs.declared.event.Acceptance.TheVariants.{Release, Ask, Give
 use Rattle.rules.specs.declared.event.Event.{Event}
 use Rattle.rules.specs.declared.event.Event.TheVariants.{Accepted, Refused}
 use Rattle.rules.specs.declared.task.State.{State}
-use Rattle.rules.specs.declared.task.State.TheVariants.{Going, Waiting, Holding}
+use Rattle.rules.specs.declared.task.State.TheVariants.{Idle, Going, HeldBack, Waiting, Holding}
 use Rattle.rules.specs.declared.task.Task.{Task}
 
 -- a bank's entry of a task, as far as there is one: it holds, or it waits
@@ -28,8 +28,11 @@ is_queued (Some x) = not (holds x)
 
 -- a task that waited at r, and that the bank now lists as holding, holds with 0 used
 abbrev pub let_in_state : ℕ → Bool → State → Task → Task
+let_in_state r held Idle k = k
+let_in_state r held Going k = k
+let_in_state r held (HeldBack w) k = k
 let_in_state r held (Waiting w) k = cond (w.resource == r && held) (in_state (Holding w) k) k
-let_in_state r held _ k = k
+let_in_state r held (Holding w) k = k
 
 abbrev pub let_in : ℕ → List Request → ℕ → Task → Task
 let_in r xs t k = let_in_state r (is_held (request_of t xs)) k.state k
@@ -43,9 +46,11 @@ issued_task (Some i) t k =
 -- one tick more of use for a holder; one tick more for a job that waits, which is a job that is
 -- blocked
 abbrev pub ticked_state : State → Task → Task
+ticked_state Idle k = k
+ticked_state Going k = k
+ticked_state (HeldBack w) k = k
 ticked_state (Waiting w) k = record k { blocked = k.blocked + 1 }
 ticked_state (Holding w) k = record k { used = k.used + 1 }
-ticked_state _ k = k
 
 abbrev pub ticked_task : Task → Task
 ticked_task k = ticked_state k.state k

@@ -16,7 +16,7 @@ use Rattle.rules.specs.States.{is_idle, is_holding, wanted_of}
 use Rattle.rules.specs.declared.call.Call.{Call}
 use Rattle.rules.specs.declared.call.Call.TheVariants.{Release, Ask, Give, Finish, Tick}
 use Rattle.rules.specs.declared.task.State.{State}
-use Rattle.rules.specs.declared.task.State.TheVariants.{Holding}
+use Rattle.rules.specs.declared.task.State.TheVariants.{Idle, Going, HeldBack, Waiting, Holding}
 use Rattle.rules.specs.declared.task.Wanted.{Wanted}
 
 -- the declared length of a task at a resource, and 0 where none is
@@ -25,8 +25,11 @@ length_for p t r = unwrap_or (length_at p t r) 0
 
 -- a holder has used all of its declared length
 abbrev pub late_in : Contents → ℕ → ℕ → State → Bool
+late_in p t used Idle = false
+late_in p t used Going = false
+late_in p t used (HeldBack w) = false
+late_in p t used (Waiting w) = false
 late_in p t used (Holding w) = nat_le (length_for p t w.resource) used
-late_in p t used _ = false
 
 abbrev pub late : Setup → Snapshot → ℕ → Bool
 late a s t = late_in a.plan t (s.tasks t).used (s.tasks t).state
@@ -110,7 +113,7 @@ limit_questions a r m =
     ∷ ask 3 (knows a.told r m)
     ∷ []
 
--- the most holders in mode W of a plan's resource, and whether it is a reader-writer resource
+-- the most holders in mode W of a plan's resource, and whether mode R is known there
 unfoldable pub slots_in : Contents → ℕ → ℕ
 slots_in c r = holders_of (slice_index_or c.resources r ReaderWriter)
 

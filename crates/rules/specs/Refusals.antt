@@ -24,8 +24,19 @@ number NoFit = 24
 number (Bank why) = bank_number why
 
 abbrev pub task_named : Refusal → Option ℕ
+task_named NoTask = None
+task_named NoResource = None
+task_named NoMode = None
+task_named NoLength = None
+task_named NotIdle = None
+task_named ManyReleases = None
+task_named NotRunning = None
+task_named StillHolding = None
+task_named NotHolding = None
 task_named (Late task) = Some task
-task_named _ = None
+task_named ClockEnds = None
+task_named NoFit = None
+task_named (Bank why) = None
 
 abbrev pub from_bank : Refusal → Bool
 from_bank (Bank why) = true

@@ -54,7 +54,7 @@ impl Tasks {
         }
     }
 
-    /// Where the tasks with an issued request end: no task from this one on waits or holds.
+    /// No task from this one on waits or holds. It may be more than the least such task.
     #[tactic(auto, unfolding(crate::specs::Tasks::NoneIssuedFrom))]
     pub fn issued_end(&self) -> usize
         ensures none { NoneIssuedFrom result self.now.records.rows }

@@ -38,8 +38,8 @@ fn is_newline(s: &[u8]) -> bool
     matches!(s, [b'\n'])
 }
 
-/// The letter of a line, its newline included, and how many fields it has. They are put at the start
-/// of the memory that is lent.
+/// The letter of a line and how many fields it has, which are put at the start of the memory that
+/// is lent. Nothing where the line has no such form; what the memory then has is left open.
 // The memory is lent, and what reads a line is inlined, so that no line pays for fields that are
 // moved.
 #[inline(always)]

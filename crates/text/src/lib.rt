@@ -1,4 +1,4 @@
-//! What plans and events share: decimal numbers, lines, memory handed in, refusals.
+//! What plans and events share: decimal numbers, lines and their fields, memory, refusals.
 #![tactic(auto)]
 
 /// The letter and the fields of a line.
