@@ -10,7 +10,7 @@ pub mod members;
 /// The job whose request is issued next.
 pub mod next;
 /// 64 records, of which one is lent at a time.
-pub mod records;
+mod records;
 /// Which jobs are looked at.
 pub mod selection;
 /// The records with the plan of their tasks.
