@@ -1,5 +1,5 @@
 ghost use Rattle.std.specs.Prelude.{length};
-ghost use Rattle.bank.specs.Meaning.{ChangesBy};
+ghost use Rattle.bank.specs.Meaning.{EntersBank, LeavesBank, ChangesBy};
 ghost use Rattle.bank.specs.Questions.{TellsAt};
 ghost use Rattle.readers_writers.specs.Meaning.{is_small, is_sound};
 ghost use Rattle.readers_writers.specs.ReadersWriters.{told_of, active_of, Settled, EntersExactly, LeavesExactly};
@@ -69,13 +69,21 @@ impl Bank for ReadersWriters {
         Ok(self.lines[at].request_of(party as u8))
     }
 
-    #[tactic(auto, using(crate::proofs::Meaning::enters_exactly))]
-    fn enter(&mut self, resource: u32, party: u32, mode: Mode) -> Result<bool, Refusal> {
+    #[tactic(auto, using(crate::proofs::Meaning::enters_exactly, crate::proofs::Meaning::settles))]
+    fn enter(&mut self, resource: u32, party: u32, mode: Mode) -> Result<bool, Refusal>
+        ensures enters { EntersBank told_of active_of resource party mode result self.old self.new }
+        ensures exact { ChangesBy (EntersExactly resource party mode) result self.old self.new }
+        ensures settled { Settled self.new }
+    {
         self.enter_line(resource, party, mode)
     }
 
-    #[tactic(auto, using(crate::proofs::Meaning::leaves_exactly))]
-    fn leave(&mut self, resource: u32, party: u32) -> Result<(), Refusal> {
+    #[tactic(auto, using(crate::proofs::Meaning::leaves_exactly, crate::proofs::Meaning::settles))]
+    fn leave(&mut self, resource: u32, party: u32) -> Result<(), Refusal>
+        ensures leaves { LeavesBank told_of active_of resource party result self.old self.new }
+        ensures exact { ChangesBy (λ done. LeavesExactly resource party) result self.old self.new }
+        ensures settled { Settled self.new }
+    {
         self.leave_line(resource, party)
     }
 }

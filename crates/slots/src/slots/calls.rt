@@ -1,5 +1,5 @@
 ghost use Rattle.std.specs.Prelude.{length};
-ghost use Rattle.bank.specs.Meaning.{ChangesBy};
+ghost use Rattle.bank.specs.Meaning.{EntersBank, LeavesBank, ChangesBy};
 ghost use Rattle.bank.specs.Questions.{TellsAt};
 ghost use Rattle.slots.specs.Slots.{told_of, active_of, Full, EntersLast, LeavesPlace};
 ghost use Rattle.slots.specs.Meaning.{is_small, is_sound};
@@ -72,13 +72,21 @@ impl Bank for Slots {
         Ok(self.lines[at].request_of(party as u8))
     }
 
-    #[tactic(auto, using(crate::proofs::Meaning::enters_last))]
-    fn enter(&mut self, resource: u32, party: u32, mode: Mode) -> Result<bool, Refusal> {
+    #[tactic(auto, using(crate::proofs::Meaning::enters_last, crate::proofs::Meaning::is_full))]
+    fn enter(&mut self, resource: u32, party: u32, mode: Mode) -> Result<bool, Refusal>
+        ensures enters { EntersBank told_of active_of resource party mode result self.old self.new }
+        ensures exact { ChangesBy (EntersLast resource party) result self.old self.new }
+        ensures full { Full self.new }
+    {
         self.take_in(resource, party, mode)
     }
 
-    #[tactic(auto, using(crate::proofs::Meaning::leaves_place))]
-    fn leave(&mut self, resource: u32, party: u32) -> Result<(), Refusal> {
+    #[tactic(auto, using(crate::proofs::Meaning::leaves_place, crate::proofs::Meaning::is_full))]
+    fn leave(&mut self, resource: u32, party: u32) -> Result<(), Refusal>
+        ensures leaves { LeavesBank told_of active_of resource party result self.old self.new }
+        ensures exact { ChangesBy (λ done. LeavesPlace resource party) result self.old self.new }
+        ensures full { Full self.new }
+    {
         self.let_out(resource, party)
     }
 }
