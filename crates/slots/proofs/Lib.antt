@@ -1,5 +1,6 @@
 pub mod Changes
 pub mod Exact
+pub mod Holders
 pub mod Meaning
 pub mod Places
 pub mod Requests

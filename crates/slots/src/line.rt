@@ -52,6 +52,7 @@ impl Line {
     }
 
     // The place of a party that holds, if it does.
+    #[tactic(auto, using(crate::proofs::Places::found, crate::proofs::Holders::none_holds, crate::proofs::Holders::some_holds))]
     pub(crate) fn holder(&self, party: u8) -> Option<usize>
         ensures holds { is_some result ≡ is_holder party (requests self.now.slots (row self.now)) }
         ensures place { IfSome result (λ i. i ≡ place party (row self.now)) }
