@@ -1,9 +1,6 @@
-use Rattle.std.proofs.Common.{◌≡◌, ℕ, true, ◌+◌, ◌<◌, ◌≤◌, List, [], ◌∷◌, length, get_or, sum, sym, ap, ◌∙◌, refl, subst, ⊎_elim, arith}
-use Rattle.std.proofs.lemmas.Bool.{cases_lt}
-use Rattle.std.proofs.lemmas.List.{get_or_past}
+use Rattle.std.proofs.Common.{◌≡◌, ℕ, true, ◌+◌, ◌<◌, ◌≤◌, List, [], ◌∷◌, length, get_or, sum, sym, ap, refl, subst, arith}
 use Rattle.std.proofs.lemmas.List.Sums.{sum_by-cons}
 use Rattle.plan.proofs.Rows.{processors_few}
-use Rattle.readers_writers.specs.Told.{reader_writers_of, told_with}
 use Rattle.readers_writers.specs.Kept.{named, good}
 use Rattle.readers_writers.specs.declared.line.Line.{Line}
 use Rattle.readers_writers.specs.Limits.{list_of, bare, Keeping}
@@ -30,9 +27,3 @@ invariant_of-result c =
       most = omega arith;
       kept = λ r l. keep_free _ _ (c.default.ensures.at r bare (omega arith));
     }
-
-pub returns : goal.returns
-returns c = record {
-  told = ap (λ n. told_with n c.all_processors-seats.result) (c.count_in-count.ensures.count ∙ ap reader_writers_of c.resource_row.ensures.value) ∙ ap (told_with (reader_writers_of c.args.plan.now.tables.resources)) c.all_processors-seats.ensures;
-  nobody = λ r. ⊎_elim (λ l. c.default.ensures.at r bare l) (λ l. ap list_of (get_or_past c.default.result r bare (omega (arith, c.default.ensures.long)))) (cases_lt r 16);
-}
