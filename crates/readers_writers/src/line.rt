@@ -131,22 +131,41 @@ impl Line {
     }
 
     // How many hold.
+    #[inline(always)]
     fn holders(&self) -> u32
         ensures { result ≡ count_by is_holder (list_of self.now) }
     {
-        self.entries.iter().filter(|e| e.holds).count() as u32
+        // a loop, which the compiler leaves out where nobody asks for the number
+        let entries = self.entries.as_slice();
+        let mut n: usize = 0;
+        for e in entries {
+            if e.holds {
+                n += 1;
+            }
+        }
+        n as u32
     }
 
     // How many writers stand before a place.
+    #[inline(always)]
     fn writers_before(&self, at: usize) -> u32
         requires { at ≤ length (list_of self.now) }
         ensures many { result ≡ count_by is_writer (take at (list_of self.now)) }
         ensures few { result ≤ PARTIES }
     {
-        self.entries[..at].iter().filter(|e| e.is_writer()).count() as u32
+        // a loop, as in `holders`
+        let before = &self.entries[..at];
+        let mut n: usize = 0;
+        for e in before {
+            if e.is_writer() {
+                n += 1;
+            }
+        }
+        n as u32
     }
 
     /// The request at a place, if there is one.
+    #[inline(always)]
     pub(crate) fn request(&self, at: usize) -> Option<Request>
         ensures { result ≡ slice_get (requests (list_of self.now)) at }
     {
@@ -175,6 +194,7 @@ impl Line {
 
     /// The request of a party, if it has one.
     #[tactic(auto, using(crate::proofs::Positions::found, crate::proofs::PlacesLemmas::request_of_lem))]
+    #[inline(always)]
     pub(crate) fn request_of(&self, party: u8) -> Option<Request>
         ensures { result ≡ request_of party (requests (list_of self.now)) }
     {

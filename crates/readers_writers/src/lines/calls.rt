@@ -63,6 +63,7 @@ impl Bank for ReadersWriters {
         Ok(self.lines[at].request(place as usize))
     }
 
+    #[inline(always)]
     fn request_of(&self, resource: u32, party: u32) -> Result<Option<Request>, Refusal> {
         let at = index(resource, self.count)?;
         check_party(party)?;
