@@ -1,4 +1,10 @@
-ghost use Rattle.std.specs.Prelude.{◌≡◌, if◌then◌else◌, nat_eq, nat_lt};
+ghost use Rattle.std.specs.Cmp.{on_total, partial_order_from_agreeing_total};
+ghost use Rattle.std.specs.Ordering.{as_partial_cmp, on};
+ghost use Rattle.std.specs.Prelude.{◌≡◌, if◌then◌else◌, nat_eq, nat_lt, refl};
+ghost use Rattle.order.specs.Laws.{absent_last_total, absent_last_ties};
+ghost use Rattle.order.specs.Orders.{absent_last};
+
+use std::cmp::Ordering;
 
 /// A job, by its release number and then by its task.
 #[derive(Clone, Copy, Debug, Default, PartialEq, Eq, PartialOrd, Ord)]
@@ -33,5 +39,43 @@ impl Holder {
         ensures { result ≡ (if nat_eq self.now.left holder.now.left then nat_lt self.now.task holder.now.task else nat_lt self.now.left holder.now.left) }
     {
         self < holder
+    }
+}
+
+/// What may be absent: what is there comes before what is absent.
+#[derive(Clone, Copy, Debug, PartialEq, Eq)]
+pub struct AbsentLast<T>(
+    /// The element, if it is there.
+    pub Option<T>,
+);
+
+impl<T: Ord> Ord for AbsentLast<T> {
+    ghost cmp = { on (λ x. x.0) (absent_last T.cmp) };
+
+    ghost total = { on_total (λ x. x.0) (absent_last_total T.Ord.total) };
+
+    ghost matches_partial_cmp = { λ x y. refl };
+
+    ghost matches_eq = { λ x y. absent_last_ties T.cmp T.Ord.matches_eq x.0 y.0 };
+
+    fn cmp(&self, other: &AbsentLast<T>) -> Ordering {
+        match (&self.0, &other.0) {
+            (Some(x), Some(y)) => x.cmp(y),
+            (Some(_), None) => Ordering::Less,
+            (None, Some(_)) => Ordering::Greater,
+            (None, None) => Ordering::Equal,
+        }
+    }
+}
+
+impl<T: Ord> PartialOrd for AbsentLast<T> {
+    ghost partial_cmp = { as_partial_cmp (on (λ x. x.0) (absent_last T.cmp)) };
+
+    ghost laws = { partial_order_from_agreeing_total (on (λ x. x.0) (absent_last T.cmp))
+        (on_total (λ x. x.0) (absent_last_total T.Ord.total)) (λ x y. refl)
+        (λ x y. absent_last_ties T.cmp T.Ord.matches_eq x.0 y.0) };
+
+    fn partial_cmp(&self, other: &AbsentLast<T>) -> Option<Ordering> {
+        Some(self.cmp(other))
     }
 }
