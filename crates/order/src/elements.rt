@@ -1,8 +1,9 @@
 ghost use Rattle.std.specs.Cmp.{on_total, partial_order_from_agreeing_total};
 ghost use Rattle.std.specs.Ordering.{as_partial_cmp, on};
+ghost use Rattle.std.specs.declared.cmp.Ordering.TheVariants.{Equal};
 ghost use Rattle.std.specs.Prelude.{◌≡◌, if◌then◌else◌, nat_eq, nat_lt, refl};
 ghost use Rattle.order.specs.Laws.{absent_last_total, absent_last_ties};
-ghost use Rattle.order.specs.Orders.{absent_last};
+ghost use Rattle.order.specs.Orders.{SameIfEqual, SameIfNeither, absent_last};
 
 use std::cmp::Ordering;
 
@@ -17,8 +18,12 @@ pub struct Job {
 
 impl Job {
     /// Whether it was released before the other job, or has the same number and a lower task.
+    #[tactic(auto, using(crate::proofs::Apart::job_apart))]
     pub fn precedes(&self, job: &Job) -> bool
-        ensures { result ≡ (if nat_eq self.now.release job.now.release then nat_lt self.now.task job.now.task else nat_lt self.now.release job.now.release) }
+        ensures value { result ≡ (if nat_eq self.now.release job.now.release
+            then nat_lt self.now.task job.now.task
+            else nat_lt self.now.release job.now.release) }
+        ensures apart { SameIfNeither ⟦<Job as Ord>⟧.cmp result self.now job.now }
     {
         self < job
     }
@@ -35,8 +40,12 @@ pub struct Holder {
 
 impl Holder {
     /// Whether it has fewer ticks left than the other holder, or as many and a lower task.
+    #[tactic(auto, using(crate::proofs::Apart::holder_apart))]
     pub fn precedes(&self, holder: &Holder) -> bool
-        ensures { result ≡ (if nat_eq self.now.left holder.now.left then nat_lt self.now.task holder.now.task else nat_lt self.now.left holder.now.left) }
+        ensures value { result ≡ (if nat_eq self.now.left holder.now.left
+            then nat_lt self.now.task holder.now.task
+            else nat_lt self.now.left holder.now.left) }
+        ensures apart { SameIfNeither ⟦<Holder as Ord>⟧.cmp result self.now holder.now }
     {
         self < holder
     }
@@ -58,7 +67,11 @@ impl<T: Ord> Ord for AbsentLast<T> {
 
     ghost matches_eq = { λ x y. absent_last_ties T.cmp T.Ord.matches_eq x.0 y.0 };
 
-    fn cmp(&self, other: &AbsentLast<T>) -> Ordering {
+    #[tactic(auto, using(crate::proofs::Apart::absent_last_apart))]
+    fn cmp(&self, other: &AbsentLast<T>) -> Ordering
+        ensures value { result ≡ absent_last T.cmp self.now.0 other.now.0 }
+        ensures apart { SameIfEqual T.cmp → result ≡ Equal → self.now ≡ other.now }
+    {
         match (&self.0, &other.0) {
             (Some(x), Some(y)) => x.cmp(y),
             (Some(_), None) => Ordering::Less,
