@@ -37,12 +37,13 @@ fn value(s: &[u8]) -> u32
 }
 
 // The number at the head of a text, and how many digits it has.
-#[tactic(auto, using(crate::proofs::Fronts::front_digits, std::proofs::lemmas::Grind::common_steps))]
+#[tactic(auto, using(crate::proofs::Fronts::front_digits, crate::proofs::Fronts::front_count, std::proofs::lemmas::Grind::common_steps))]
 fn head_number(s: &[u8]) -> Option<(u32, usize)>
     ensures read { read_number s.now ≡ elim result [ None ↦ None | Some p ↦ Some (p.0, drop p.1 s.now) ] }
     ensures within { elim result [ None ↦ Unit {0} | Some p ↦ p.1 ≤ length s.now ] }
 {
-    let n = count_digits(s);
+    // A number has at most DIGITS digits: of a longer run only one digit more is looked at.
+    let n = count_digits(&s[..s.len().min(DIGITS + 1)]);
     if n < 1 || n > DIGITS {
         return None;
     }
