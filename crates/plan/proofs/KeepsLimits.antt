@@ -9,13 +9,16 @@ use Rattle.std.proofs.lemmas.List.Sums.{AllPass-from_list_all}
 use Rattle.plan.specs.Adding.{below}
 use Rattle.plan.specs.Contents.{Declared}
 use Rattle.plan.specs.KeepsLimits.{From, IsLengthIn, Rises, IsOtherPair, KeepsLimits}
-use Rattle.plan.specs.Kinds.{in_kind_limits}
+use Rattle.plan.specs.Kinds.{holders_of, in_kind_limits}
 use Rattle.plan.specs.Limits.{Between}
 use Rattle.plan.specs.Of.{placed, declared, contents_of, plan_contents}
 use Rattle.plan.specs.declared.plan.Plan.{Plan}
+use Rattle.plan.specs.declared.resource.Resource.{Resource}
+use Rattle.plan.specs.declared.resource.Resource.TheVariants.{Slots, ReaderWriter}
 use Rattle.plan.specs.declared.tables.Tables.{Tables}
 use Rattle.plan.proofs.Grid.{Rising, declared_rising, declared_all}
 use Rattle.plan.proofs.ByKind.{kinds_rise}
+use Rattle.plan.proofs.Rows.{processors_few}
 
 -- from each entry of a table to all
 entries : (P : ℕ → Type 0) (low high : ℕ) (xs : List ℕ) → Between low high xs → ((x : ℕ) → low ≤ x → x < high → P x) → All P xs
@@ -54,3 +57,14 @@ tables_keep t cluster resource task =
 
 pub keeps_limits : (p : Plan) → KeepsLimits (plan_contents p)
 keeps_limits p = tables_keep p.tables p.has_cluster p.has_resource p.has_task
+
+-- a resource in the limits of its kind, where there are at most 64 processors
+kind_few : (m : ℕ) (r : Resource) → m ≤ 64 → in_kind_limits m r ≡ true → From 1 64 (holders_of r)
+kind_few m (Slots k) few e = grind (arith, nat_tests)
+kind_few m ReaderWriter few e = (omega arith, omega arith)
+
+-- each resource of a plan is for 1 to 64 holders
+pub few_holders : (p : Plan) → All (λ r. From 1 64 (holders_of r)) p.tables.resources
+few_holders p i d l =
+    let t = p.tables in
+    kind_few (sum t.clusters) (get_or t.resources i d) (processors_few t.clusters t.few_clusters t.clusters_sized) (AllPass-from_list_all (in_kind_limits (sum t.clusters)) t.resources t.kinds_in_limits i d l)

@@ -1,7 +1,8 @@
-ghost use Rattle.std.specs.Prelude.{◌≡◌, ◌<◌, ◌≤◌, length};
+ghost use Rattle.std.specs.Prelude.{◌≡◌, ◌<◌, ◌≤◌, length, IfSome};
 ghost use Rattle.std.specs.List.{slice_get};
 ghost use Rattle.plan.specs.Contents.{smallest, processors, resource_count, resource_at, length_at, longest_at, longest_of};
-ghost use Rattle.plan.specs.KeepsLimits.{KeepsLimits};
+ghost use Rattle.plan.specs.KeepsLimits.{From, KeepsLimits};
+ghost use Rattle.plan.specs.Kinds.{holders_of};
 ghost use Rattle.plan.specs.Of.{contents_of, plan_contents};
 
 use crate::plan::Plan;
@@ -119,9 +120,11 @@ impl Plan {
         self.tables.resources.len()
     }
 
-    /// A resource, if it exists.
+    /// A resource, if it exists. It is for 1 to 64 holders.
+    #[tactic(auto, using(crate::proofs::KeepsLimits::few_holders))]
     pub fn resource(&self, resource: usize) -> Option<Resource>
-        ensures { result ≡ resource_at (plan_contents self.now) resource }
+        ensures value { result ≡ resource_at (plan_contents self.now) resource }
+        ensures holders { IfSome result (λ r. From 1 64 (holders_of r)) }
     {
         self.resource_row().get(resource).copied()
     }
