@@ -65,10 +65,9 @@ fn show_nearest(rt: &HostRuntime, answer: Option<(u32, u32)>) -> io::Result<()> 
 }
 
 // Spends a claim with a controller of which no task waits or is held back: the answer is a refusal.
-// Not over slots: at the `give` of this function rattle's borrow checker has no plan for their type.
 fn settle(claim: Claim) -> Result<u32, Refusal> {
     let plan = Plan::new();
-    let mut idle = Controller::new(&plan, ReadersWriters::new(&plan));
+    let mut idle = Controller::new(&plan, Slots::new(&plan));
     match give(&mut idle, claim) {
         Ok(answer) => answer,
         Err(_) => unreachable(),

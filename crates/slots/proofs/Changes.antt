@@ -1,9 +1,12 @@
--- What a bank keeps where the parties of one line change.
-use Rattle.std.proofs.Common.{◌≡◌, ℕ, ◌+◌, ◌<◌, List, length, get_or, set, sym, ap, subst, ◌∙◌, ⊎_elim, arith}
-use Rattle.std.specs.List.{remove}
+-- What a bank keeps where the parties of one line change, and what that line keeps.
+use Rattle.std.proofs.Common.{◌≡◌, ℕ, suc, ◌+◌, ◌-◌, ◌<◌, List, ◌∷◌, length, take, drop, replicate, get_or, set, sym, ap, subst, ◌∙◌, ⊎_elim, arith}
+use Rattle.std.specs.List.{copy_within, remove}
 use Rattle.std.proofs.lemmas.Bool.{cases_eq, cases_lt}
-use Rattle.std.proofs.lemmas.List.{get_or-set_same, get_or-set_other}
+use Rattle.std.proofs.lemmas.Grind.{common_steps}
+use Rattle.std.proofs.lemmas.List.{get_or-set_same, get_or-set_other, drop-set, drop-drop}
 use Rattle.std.proofs.lemmas.List.Edits.{length-remove, get_or-remove_below, get_or-remove_above}
+use Rattle.byte_vec.specs.Filled.{Filled, length_of_filled}
+use Rattle.byte_vec.proofs.Filling.{zeros_behind}
 use Rattle.slots.specs.Limits.{Keeping, Kept, Sized}
 use Rattle.slots.specs.Rows.{row, bare}
 use Rattle.slots.specs.declared.line.Line.{Line}
@@ -33,3 +36,36 @@ keeping_removed seats i old new l e kept =
     let n = length-remove ps i l in
     let m = ap length e in
     (omega (arith, kept.0), λ j h. ⊎_elim (λ f. omega (arith, ap (λ qs. get_or qs j 0) e, get_or-remove_below ps i 0 j f l, kept.1 j (omega arith))) (λ f. omega (arith, ap (λ qs. get_or qs j 0) e, get_or-remove_above ps i 0 j f l, kept.1 (j + 1) (omega arith))) (cases_lt j i))
+
+-- a party comes to a line or goes: the places behind its parties are still 0
+module _ (n : ℕ) (ps : List ℕ) (len : ℕ) (f : Filled n ps len) where
+  pub filled_pushed : (p : ℕ) → length (take len ps) < n → Filled n (set ps len p) (len + 1)
+  filled_pushed p room =
+      let m = length_of_filled n ps len f in
+      let z = zeros_behind n ps len 1 f in
+      record {
+        whole = grind (arith, common_steps);
+        within = omega (arith, m);
+        behind = grind (arith, common_steps);
+      }
+
+  -- the parties behind a place come one further to the front
+  module _ (i : ℕ) (l : i < length (take len ps)) (qs : List ℕ) (long : length qs ≡ length ps) (after : qs ≡ copy_within ps (i + 1) len i) where
+    kept : drop (len - 1) qs ≡ drop (len - 1) ps
+    kept = let m = length_of_filled n ps len f in grind (arith, common_steps)
+
+    behind : drop ((len - 1) + 1) qs ≡ replicate (n - len) 0
+    behind =
+        let m = length_of_filled n ps len f in
+        let e : (len - 1) + 1 ≡ len = omega (arith, m, l) in
+        sym (drop-drop 1 (len - 1) qs) ∙ (ap (λ zs. drop 1 zs) kept ∙ (drop-drop 1 (len - 1) ps ∙ (ap (λ k. drop k ps) e ∙ f.behind)))
+
+    pub filled_removed : Filled n (set qs (len - 1) 0) (len - 1)
+    filled_removed =
+        let m = length_of_filled n ps len f in
+        let k : suc (n - len) ≡ n - (len - 1) = omega (arith, m, l, f.within) in
+        record {
+          whole = grind (arith, common_steps);
+          within = omega (arith, f.within);
+          behind = drop-set qs (len - 1) 0 (omega (arith, m, l, long, f.whole, f.within)) ∙ (ap (λ (zs : List ℕ). 0 ∷ zs) behind ∙ ap (λ m. replicate m 0) k);
+        }

@@ -5,4 +5,5 @@ pub mod Meaning
 pub mod Places
 pub mod Requests
 pub mod Rows
+pub mod Same
 pub mod SlotsOf

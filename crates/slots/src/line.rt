@@ -1,22 +1,25 @@
-ghost use Rattle.std.specs.Prelude.{◌≡◌, ◌<◌, ◌≤◌, ◌==◌, [], ◌∷◌, ◌++◌, length, position, is_some, IfSome};
-ghost use Rattle.std.specs.List.{remove, slice_get};
 ghost use Rattle.bank.specs.declared.size.TheConstants.{PARTIES};
-ghost use Rattle.bank.specs.Lists.{is_active, is_holder, request_of};
-ghost use Rattle.slots.specs.Lines.{request_at, requests};
-ghost use Rattle.slots.specs.Rows.{row, place};
+ghost use Rattle.byte_vec.specs.Filled.{Filled};
 
 use bank::request::{Mode, Request, Standing};
 use bank::size::PARTIES;
-use byte_vec::byte_vec::ByteVec;
 
-/// A resource with so many slots, and its parties in order of entry.
+/// A resource with so many slots, and its parties in order of entry. The places behind them are 0.
 #[derive(Clone, Copy, Debug, PartialEq, Eq)]
 pub struct Line {
     pub(crate) slots: u8,
-    pub(crate) parties: ByteVec<PARTIES>,
+    pub(crate) parties: [u8; PARTIES],
+    pub(crate) size: usize,
+    ghost filled: { Filled PARTIES parties size },
 }
 
 impl Line {
+    ghost use Rattle.std.specs.Prelude.{◌≡◌, ◌<◌, ◌≤◌, ◌==◌, [], ◌∷◌, ◌++◌, length, position, is_some, IfSome};
+    ghost use Rattle.std.specs.List.{remove, slice_get};
+    ghost use Rattle.bank.specs.Lists.{is_active, is_holder, request_of};
+    ghost use Rattle.slots.specs.Lines.{request_at, requests};
+    ghost use Rattle.slots.specs.Rows.{row, place};
+
     // The most holders.
     pub(crate) fn holders(&self) -> u32
         ensures value { result ≡ self.now.slots }
@@ -26,13 +29,13 @@ impl Line {
     }
 
     // How many are active.
-    #[tactic(auto, using(crate::proofs::Requests::length_requests))]
+    #[tactic(auto, using(crate::proofs::Requests::length_requests, byte_vec::specs::Filled::length_of_filled))]
     pub(crate) fn size(&self) -> u32
         ensures parties { result ≡ length (row self.now) }
         ensures requests { result ≡ length (requests self.now.slots (row self.now)) }
         ensures few { result < 65 }
     {
-        self.parties.len() as u32
+        self.size as u32
     }
 
     // The first place of a party, if it is active.
@@ -41,7 +44,7 @@ impl Line {
         ensures here { IfSome result (λ i. i < length (row self.now)) }
         ensures within { IfSome result (λ place. place < PARTIES) }
     {
-        self.parties.as_slice().iter().position(|q| *q == party)
+        self.parties[..self.size].iter().position(|q| *q == party)
     }
 
     // Whether a party is active.
@@ -89,7 +92,7 @@ impl Line {
         requires { 1 ≤ self.now.slots }
         ensures { result ≡ slice_get (requests self.now.slots (row self.now)) place }
     {
-        let party = *self.parties.as_slice().get(place)?;
+        let party = *self.parties[..self.size].get(place)?;
         Some(self.request(place, party))
     }
 
@@ -109,7 +112,8 @@ impl Line {
         ensures slots { self.new.slots ≡ self.old.slots }
         ensures row { row self.new ≡ row self.old ++ (party ∷ []) }
     {
-        self.parties.push(party).unwrap();
+        self.parties[self.size] = party;
+        self.size += 1;
     }
 
     // The party at a place is gone.
@@ -118,6 +122,8 @@ impl Line {
         ensures slots { self.new.slots ≡ self.old.slots }
         ensures row { row self.new ≡ remove (row self.old) place }
     {
-        self.parties.remove(place);
+        self.parties.copy_within(place + 1..self.size, place);
+        self.size -= 1;
+        self.parties[self.size] = 0;
     }
 }

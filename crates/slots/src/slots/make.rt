@@ -7,8 +7,7 @@ ghost use Rattle.slots.specs.Slots.{MadeFrom};
 
 use crate::line::Line;
 use crate::slots::Slots;
-use bank::size::RESOURCES;
-use byte_vec::byte_vec::ByteVec;
+use bank::size::{PARTIES, RESOURCES};
 use plan::plan::Plan;
 use plan::resource::Resource;
 
@@ -21,7 +20,8 @@ fn lines_of(plan: &Plan) -> ([Line; RESOURCES], u32)
 {
     let line = Line {
         slots: 0,
-        parties: ByteVec::new(),
+        parties: [0; PARTIES],
+        size: 0,
     };
     let mut lines = [line; RESOURCES];
     let mut count = 0;

@@ -7,7 +7,7 @@ use Rattle.slots.proofs.slots.Slots.new.Goals as goal
 pub invariant_of-result : goal.invariant_of-result
 invariant_of-result c =
     let t = c.args.plan.now.tables in
-    let o = c.lines_of-lines.ensures in
+    let o = c.lines_of-count.ensures in
     let m = c.all_processors.ensures in
     let one = c.args.plan.now.has_cluster in
     let first = get_or-le-sum_by (λ x. x) t.clusters 0 0 one in

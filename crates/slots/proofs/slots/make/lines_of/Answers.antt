@@ -27,15 +27,14 @@ loop-place-preserved c =
     elim c.match-resource_row-place.branch [
       | in-Slots w ↦
           let k = w.in-Slots.k in
-          let line = record (get_or lines n w.index-lines-count.result) { slots = k } in
           let taken = slots_of (take p rs) in
           let more : slots_of (take (p + 1) rs) ≡ taken ++ (k ∷ []) = slots_more rs p k (Slots 0) there (row_is ∙ w.in-Slots.is) in
           rw (w.lines-is, w.count-is, more) (
-            length-set lines n line ∙ i.0,
+            length-set lines n _ ∙ i.0,
             omega (arith, i.1, length-append taken (k ∷ [])),
             omega (arith, i.2),
-            line_more lines n line taken (omega (arith, i.0, i.2)) i.1 i.3,
-            rows_more lines n line (ap row (get_or_default lines n w.index-lines-count.result bare (omega (arith, i.0, i.2))) ∙ i.4 n) i.4,
+            line_more lines n _ taken (omega (arith, i.0, i.2)) i.1 i.3,
+            rows_more lines n _ (ap row (get_or_default lines n w.index-lines-count.result bare (omega (arith, i.0, i.2))) ∙ i.4 n) i.4,
           )
       | in-ReaderWriter w ↦ rw (w.lines-is, w.count-is, others_more rs p (Slots 0) there (row_is ∙ w.in-ReaderWriter.is)) (i.0, i.1, omega (arith, i.2), i.3, i.4)
     ]
