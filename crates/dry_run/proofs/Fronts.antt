@@ -18,8 +18,8 @@ use Rattle.dry_run.specs.Played.{Has, Played, PlayedInPart}
 use Rattle.dry_run.specs.Plays.{Replays, none, unreadable, answered, Plays, PrintedBy, Printed}
 use Rattle.dry_run.specs.Said.{part_verdict, verdict, behind_plan, preamble_text}
 use Rattle.dry_run.specs.declared.run.DryRun.{DryRun}
-use Rattle.dry_run.specs.declared.run.Phase.{Phase}
-use Rattle.dry_run.specs.declared.run.Phase.TheVariants.{Plan, Events, Over}
+use Rattle.dry_run.specs.declared.run.Progress.{Progress}
+use Rattle.dry_run.specs.declared.run.Progress.TheVariants.{Plan, Events, Over}
 use Rattle.dry_run.proofs.SameRuns.{one_print, replays_same, snoc_same, starts_same}
 use Rattle.dry_run.proofs.Steps.{part_of, behind_of}
 
@@ -105,7 +105,7 @@ front_accepted v c input out whole k lines more e f p q =
     let (j, plays) = subst (λ w. PrintedBy w input whole) e q in
     front_plays c k j lines more out whole p (subst (λ ls. Plays c j ls whole) f plays)
 
-front_in : (phase : Phase) (input out more whole : List ℕ) → FedIn phase input out → Printed (input ++ more) whole → Front out whole
+front_in : (p : Progress) (input out more whole : List ℕ) → FedIn p input out → Printed (input ++ more) whole → Front out whole
 front_in (Plan text begins) input out more whole fed q = (whole, ap (λ o. o ++ whole) (sym fed.nothing))
 front_in (Events k kept) input out more whole fed q =
     let behind = fed.events ++ more in
@@ -143,7 +143,7 @@ module _ (before after old new : Option (List ℕ)) (d : DryRun) (read out : Lis
     consumed = consumed;
     written = written;
     appended = appended;
-    front = λ whole q. starts written whole (front_trans written out whole (front_of written out begins) (front_in d.phase read out (known after) whole fed q));
+    front = λ whole q. starts written whole (front_trans written out whole (front_of written out begins) (front_in d.progress read out (known after) whole fed q));
   }
 
   -- the input is over, and what is then printed was written, or its front

@@ -2,6 +2,7 @@ pub mod ByKind
 pub mod Bytes
 pub mod Fits
 pub mod Fronts
+pub mod Phases
 pub mod Printed
 pub mod SameAnswers
 pub mod SameBanks

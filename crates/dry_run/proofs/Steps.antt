@@ -24,12 +24,12 @@ use Rattle.dry_run.specs.Made.{setup, snapshot, MadeFrom, Step}
 use Rattle.dry_run.specs.Plays.{Replays, none, unreadable, answered, Plays, PrintedBy, Printed}
 use Rattle.dry_run.specs.Said.{before_empty, plan_part, part_verdict, verdict, refused_text, preamble_text, behind_plan, said}
 use Rattle.dry_run.specs.declared.run.DryRun.{DryRun}
-use Rattle.dry_run.specs.declared.run.Phase.{Phase}
-use Rattle.dry_run.specs.declared.run.Phase.TheVariants.{Over}
+use Rattle.dry_run.specs.declared.run.Progress.{Progress}
+use Rattle.dry_run.specs.declared.run.Progress.TheVariants.{Over}
 use Rattle.dry_run.proofs.SameRuns.{one_print}
 use Rattle.dry_run.proofs.Bytes.{begins_more, found_none, front_more, part_found, part_none, part_short, plain_append, plain_line, plain_last, plain_unread, reads_front}
 
-pub into : (p q : Phase) → p ≡ q → (i o : List ℕ) → FedIn p i o → FedIn q i o
+pub into : (p q : Progress) → p ≡ q → (i o : List ℕ) → FedIn p i o → FedIn q i o
 into p q e i o fed = subst (λ x. FedIn x i o) e fed
 
 pub laid_none : (old : List ℕ) (at : ℕ) → Laid old at [] at old

@@ -12,11 +12,15 @@ use Rattle.text.specs.Lines.{lines_of}
 use Rattle.text.specs.Questions.{Question, ask, first_no}
 use Rattle.text.specs.Refusals.{number}
 use Rattle.text.specs.declared.refusal.Refusal.{Refusal}
-use Rattle.dry_run.specs.Plays.{Plays, Printed}
-use Rattle.dry_run.specs.Said.{before_empty, behind_plan, plan_part, said, verdict}
+use Rattle.dry_run.specs.Plays.{Plays, Printed, SettledBy}
+use Rattle.dry_run.specs.Said.{before_empty, behind_plan, enough, plan_part, said, verdict}
 use Rattle.dry_run.specs.declared.run.DryRun.{DryRun}
 use Rattle.dry_run.specs.declared.run.Phase.{Phase}
-use Rattle.dry_run.specs.declared.run.Phase.TheVariants.{Plan, Events, Over}
+use Rattle.dry_run.specs.declared.run.Phase.TheVariants.{Plan as ReadsPlan}
+use Rattle.dry_run.specs.declared.run.Phase.TheVariants.{Events as ReadsEvents}
+use Rattle.dry_run.specs.declared.run.Phase.TheVariants.{Over as ReadsNothing}
+use Rattle.dry_run.specs.declared.run.Progress.{Progress}
+use Rattle.dry_run.specs.declared.run.Progress.TheVariants.{Plan, Events, Over}
 
 -- whether a line begins behind these bytes
 abbrev pub line_begins : Bool → List ℕ → Bool
@@ -48,23 +52,42 @@ pub record Replaying (controller : Controller PlanBanks meaning)
   pub held : kept ≡ take 16 line
   pub plays : Plays contents controller lines out
 
-abbrev pub FedIn : Phase → List ℕ → List ℕ → Type 0
+abbrev pub FedIn : Progress → List ℕ → List ℕ → Type 0
 FedIn (Plan text begins) input out = Planning text begins input out
 FedIn (Events controller line) input out = Replaying controller line input out
-FedIn Over input out = (more : List ℕ) → Printed (input ++ more) out
+FedIn Over input out = SettledBy input out
 
 -- d stands after this input, and this was printed
 abbrev pub Fed : DryRun → List ℕ → List ℕ → Type 0
-Fed d input out = FedIn d.phase input out
+Fed d input out = FedIn d.progress input out
 
--- the dry run that is in a phase
-abbrev pub run_in : Phase → DryRun
-run_in phase = record { phase = phase }
+-- what is read next
+abbrev pub phase_in : Progress → Phase
+phase_in (Plan text begins) = ReadsPlan
+phase_in (Events controller line) = ReadsEvents
+phase_in Over = ReadsNothing
+
+abbrev pub phase_of : DryRun → Phase
+phase_of d = phase_in d.progress
+
+-- what this tells of the input, and of what was printed: enough has not come for the plan, and
+-- nothing was printed; the plan is accepted, whatever comes behind; or what is printed is settled
+abbrev pub Tells : Phase → List ℕ → List ℕ → Type 0
+Tells ReadsPlan input out = (enough input ≡ false) × (out ≡ [])
+Tells ReadsEvents input out =
+    (c : Contents)
+    × (enough input ≡ true)
+    × ((more : List ℕ) → verdict (input ++ more) ≡ Ok c)
+Tells ReadsNothing input out = SettledBy input out
+
+-- the dry run that has come so far
+abbrev pub run_in : Progress → DryRun
+run_in progress = record { progress = progress }
 
 -- what comes behind a plan: the events of its controller, or nothing where it was refused
-abbrev pub phase_behind : Option (Controller PlanBanks meaning) → Phase
-phase_behind None = Over
-phase_behind (Some controller) = Events controller []
+abbrev pub progress_behind : Option (Controller PlanBanks meaning) → Progress
+progress_behind None = Over
+progress_behind (Some controller) = Events controller []
 
 -- a piece of input was taken, and what is printed of it stands at a place
 pub record Takes (d d' : DryRun) (piece old : List ℕ) (at end : ℕ) (new : List ℕ) : Type 0 where

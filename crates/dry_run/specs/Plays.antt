@@ -65,3 +65,7 @@ PrintedBy (Err p) input out = out ≡ refused_text p.0 p.1
 
 abbrev pub Printed : List ℕ → List ℕ → Type 0
 Printed input out = PrintedBy (verdict input) input out
+
+-- what is printed is settled: whatever comes behind the input, it is this
+abbrev pub SettledBy : List ℕ → List ℕ → Type 0
+SettledBy input out = (more : List ℕ) → Printed (input ++ more) out

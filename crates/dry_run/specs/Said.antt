@@ -1,5 +1,5 @@
 -- What the program reads of its input, and what it prints.
-use Rattle.std.specs.Prelude.{ℕ, ◌+◌, Bool, true, false, cond, List, [], ◌∷◌, ◌++◌, length, take}
+use Rattle.std.specs.Prelude.{◌≡◌, ℕ, ◌+◌, Bool, true, false, cond, ◌||◌, ◌⊎◌, nat_le, List, [], ◌∷◌, ◌++◌, length, take}
 use Rattle.std.specs.Prelude.{drop, is_some, Some, None, Ok, Err, codes, decimal, Option, ◌==◌}
 use Rattle.std.specs.Option.{unwrap_or, option_map}
 use Prim.Native.Char.{code}
@@ -35,6 +35,15 @@ part_verdict part = decide (first_no (part_questions part)) 0 (read_text (unwrap
 
 abbrev pub verdict : List ℕ → Verdict
 verdict input = part_verdict (plan_part input)
+
+-- enough of an input has come for its plan: what comes behind changes nothing of that
+abbrev pub enough : List ℕ → Bool
+enough input = is_some (plan_part input) || nat_le 16384 (length input)
+
+-- more may be printed of an input that goes on: enough has not come for its plan, or that was
+-- accepted
+abbrev pub GoesOn : List ℕ → Type 0
+GoesOn input = (enough input ≡ false) ⊎ ((c : Contents) × (verdict input ≡ Ok c))
 
 abbrev pub refused_text : ℕ → ℕ → List ℕ
 refused_text question line =

@@ -17,8 +17,8 @@ use Rattle.dry_run.specs.Banks.{PlanBanks, meaning}
 use Rattle.dry_run.specs.Made.{setup, snapshot}
 use Rattle.dry_run.specs.Plays.{StepsBy}
 use Rattle.dry_run.specs.declared.run.DryRun.{DryRun}
-use Rattle.dry_run.specs.declared.run.Phase.{Phase}
-use Rattle.dry_run.specs.declared.run.Phase.TheVariants.{Plan, Events, Over}
+use Rattle.dry_run.specs.declared.run.Progress.{Progress}
+use Rattle.dry_run.specs.declared.run.Progress.TheVariants.{Plan, Events, Over}
 
 -- whatever history led here, with these calls more it is that of a run that keeps the law
 abbrev pub RunsOn : Controller PlanBanks meaning → List Event → Controller PlanBanks meaning →
@@ -71,27 +71,27 @@ abbrev pub line_reserve : List ℕ → ℕ
 line_reserve line = 10 * min (length line) 16
 
 -- how many bytes may still be printed of what is kept
-abbrev pub reserve_in : Phase → ℕ
+abbrev pub reserve_in : Progress → ℕ
 reserve_in (Plan text begins) = 1040
 reserve_in (Events controller line) = line_reserve line
 reserve_in Over = 0
 
 abbrev pub reserve : DryRun → ℕ
-reserve d = reserve_in d.phase
+reserve d = reserve_in d.progress
 
 -- while the plan is read, nothing has been printed
-abbrev pub WaitsIn : Phase → ℕ → Type 0
+abbrev pub WaitsIn : Progress → ℕ → Type 0
 WaitsIn (Plan text begins) at = at ≡ 0
 WaitsIn (Events controller line) at = Unit {0}
 WaitsIn Over at = Unit {0}
 
 abbrev pub Waits : DryRun → ℕ → Type 0
-Waits d at = WaitsIn d.phase at
+Waits d at = WaitsIn d.progress at
 
 -- the plan is read, and a line begins behind its text
-abbrev pub AtLineIn : Phase → Type 0
+abbrev pub AtLineIn : Progress → Type 0
 AtLineIn (Plan text begins) = begins ≡ true
 AtLineIn _ = ⊥
 
 abbrev pub AtLine : DryRun → Type 0
-AtLine d = AtLineIn d.phase
+AtLine d = AtLineIn d.progress

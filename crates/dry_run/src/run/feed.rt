@@ -5,7 +5,7 @@ ghost use Rattle.dry_run.specs.Steps.{FirstLine};
 
 use crate::line::lay_unreadable;
 use crate::refused::lay_no_end;
-use crate::run::{DryRun, Phase};
+use crate::run::{DryRun, Progress};
 use text::refusal::Refusal;
 
 // How many bytes stand in front of the first newline.
@@ -63,15 +63,15 @@ impl DryRun {
         ensures ends { Ends self.now out.old result out.new }
         ensures within { result ≤ 64 }
     {
-        match &self.phase {
-            Phase::Plan { .. } => lay_no_end(out),
-            Phase::Events { line, .. } => {
+        match &self.progress {
+            Progress::Plan { .. } => lay_no_end(out),
+            Progress::Events { line, .. } => {
                 if line.len() == 0 {
                     return 0;
                 }
                 lay_unreadable(Refusal::NotEvent, out, 0)
             }
-            Phase::Over => 0,
+            Progress::Over => 0,
         }
     }
 

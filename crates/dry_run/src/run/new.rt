@@ -1,7 +1,7 @@
 ghost use Rattle.std.specs.Prelude.{[]};
 ghost use Rattle.dry_run.specs.Fed.{Fed};
 
-use crate::run::{DryRun, Phase};
+use crate::run::{DryRun, Progress};
 use byte_vec::byte_vec::ByteVec;
 
 impl DryRun {
@@ -10,7 +10,7 @@ impl DryRun {
         ensures { Fed result [] [] }
     {
         DryRun {
-            phase: Phase::Plan {
+            progress: Progress::Plan {
                 text: ByteVec::new(),
                 begins: true,
             },

@@ -3,17 +3,17 @@ ghost use Rattle.byte_vec.specs.Bytes.{Appends};
 ghost use Rattle.event.specs.Lines.{ReadsEvent};
 ghost use Rattle.plan.specs.Of.{plan_contents};
 ghost use Rattle.event.specs.Laid.{Laid};
-ghost use Rattle.dry_run.specs.Fed.{run_in, phase_behind, Takes};
+ghost use Rattle.dry_run.specs.Fed.{run_in, progress_behind, Takes};
 ghost use Rattle.dry_run.specs.Steps.{reserve, line_reserve, line_size, AtLine, IsLine, Plain, Waits};
 ghost use Rattle.dry_run.specs.Made.{MadeFrom};
 ghost use Rattle.dry_run.specs.Said.{preamble_text, refused_text};
-ghost use Rattle.dry_run.specs.declared.run.Phase.TheVariants.{Plan as InPlan, Events as InEvents, Over as IsOver};
+ghost use Rattle.dry_run.specs.declared.run.Progress.TheVariants.{Plan as InPlan, Events as InEvents, Over as IsOver};
 
 use crate::banks::{PlanBanks, banks_of};
 use crate::line::answer_line;
 use crate::preamble::lay_preamble;
 use crate::refused::{lay_no_end, lay_refused};
-use crate::run::{DryRun, Phase};
+use crate::run::{DryRun, Progress};
 use byte_vec::byte_vec::{ByteVec, Full};
 use controller::controller::Controller;
 use event::read::read_call;
@@ -37,7 +37,7 @@ fn accept(plan: &Plan, out: &mut [u8]) -> (Controller<PlanBanks>, usize)
 // The controller of a plan that an empty line ended, if the plan is accepted, and the end of what is printed.
 fn behind_plan(text: &[u8], out: &mut [u8]) -> (Option<Controller<PlanBanks>>, usize)
     requires { 1040 ≤ length out.old }
-    ensures takes { Takes (run_in (InPlan text.now true)) (run_in (phase_behind result.0)) (10 ∷ []) out.old 0 result.1 out.new }
+    ensures takes { Takes (run_in (InPlan text.now true)) (run_in (progress_behind result.0)) (10 ∷ []) out.old 0 result.1 out.new }
     ensures few { result.1 ≤ 1040 }
 {
     let mut plan = Plan::new();
@@ -111,8 +111,8 @@ fn keep(text: &mut ByteVec<16383>, bytes: &[u8]) -> Result<(), Full>
     text.extend_from_slice(bytes)
 }
 
-// A whole phase is made outside of what takes a line, where the room for one would be taken for each
-// line.
+// A whole `Progress` is made outside of what takes a line, where the room for one would be taken for
+// each line.
 impl DryRun {
     // No empty line has come in time.
     fn refuse(&mut self, out: &mut [u8]) -> usize
@@ -121,7 +121,7 @@ impl DryRun {
         ensures few { result ≤ 50 }
         ensures over { self.new ≡ run_in IsOver }
     {
-        self.phase = Phase::Over;
+        self.progress = Progress::Over;
         lay_no_end(out)
     }
 
@@ -132,16 +132,16 @@ impl DryRun {
         ensures few { result + reserve self.new ≤ 1040 }
         ensures waits { Waits self.new result }
     {
-        let Phase::Plan { text, .. } = &self.phase else {
+        let Progress::Plan { text, .. } = &self.progress else {
             unreachable()
         };
         let (controller, end) = behind_plan(text.as_slice(), out);
-        self.phase = match controller {
-            Some(controller) => Phase::Events {
+        self.progress = match controller {
+            Some(controller) => Progress::Events {
                 controller,
                 line: ByteVec::new(),
             },
-            None => Phase::Over,
+            None => Progress::Over,
         };
         end
     }
@@ -154,8 +154,8 @@ impl DryRun {
         ensures few { result + reserve self.new ≤ at + reserve self.old + 10 * length line.now }
         ensures waits { Waits self.new result }
     {
-        match &mut self.phase {
-            Phase::Plan { text, begins } => {
+        match &mut self.progress {
+            Progress::Plan { text, begins } => {
                 if line.len() == 1 && *begins {
                     return self.close_plan(out);
                 }
@@ -167,11 +167,11 @@ impl DryRun {
                     Err(Full) => self.refuse(out),
                 }
             }
-            Phase::Events {
+            Progress::Events {
                 controller,
                 line: kept,
             } => take_event_line(controller, kept, line, out, at),
-            Phase::Over => at,
+            Progress::Over => at,
         }
     }
 
@@ -185,19 +185,19 @@ impl DryRun {
         if bytes.len() == 0 {
             return at;
         }
-        match &mut self.phase {
-            Phase::Plan { text, begins } => match keep(text, bytes) {
+        match &mut self.progress {
+            Progress::Plan { text, begins } => match keep(text, bytes) {
                 Ok(()) => {
                     *begins = false;
                     0
                 }
                 Err(Full) => self.refuse(out),
             },
-            Phase::Events { line, .. } => {
+            Progress::Events { line, .. } => {
                 keep_front(line, bytes);
                 at
             }
-            Phase::Over => at,
+            Progress::Over => at,
         }
     }
 }

@@ -3,7 +3,7 @@ use Rattle.byte_vec.proofs.Room.{has_room, lacks_room}
 use Rattle.dry_run.specs.Said.{refused_text}
 use Rattle.event.specs.Laid.{Laid}
 use Rattle.dry_run.specs.Steps.{WaitsIn}
-use Rattle.dry_run.specs.declared.run.Phase.TheVariants.{Plan, Over}
+use Rattle.dry_run.specs.declared.run.Progress.TheVariants.{Plan, Over}
 use Rattle.dry_run.proofs.Bytes.{none_line, line_ends}
 use Rattle.dry_run.proofs.Steps.{into, laid_none, over_stays, plan_keeps, plan_full}
 use Rattle.dry_run.proofs.run.DryRun.take_line.Goals.{else-line-eq1-via-then-line-eq1+else-begins, else-line-eq1-via-else-line-eq1}
@@ -17,7 +17,7 @@ returns-in-Ok-clause-takes c =
     rw c.in-Ok.ensures.1 (record {
       printed = [];
       laid = subst (λ at. Laid c.args.out.now at [] 0 c.args.out.now) (sym start) (laid_none c.args.out.now 0);
-      law = λ i o fed. plan_keeps p.text p.begins i o (into c.args.self.now.phase (Plan p.text p.begins) p.is i o fed) c.args.line.now true (has_room 16383 p.text c.args.line.now c.in-Ok.ensures.0) (none_line p.begins c.args.line.now c.requires.0 some) (line_ends p.begins c.args.line.now c.requires.0);
+      law = λ i o fed. plan_keeps p.text p.begins i o (into c.args.self.now.progress (Plan p.text p.begins) p.is i o fed) c.args.line.now true (has_room 16383 p.text c.args.line.now c.in-Ok.ensures.0) (none_line p.begins c.args.line.now c.requires.0 some) (line_ends p.begins c.args.line.now c.requires.0);
     })
 
 pub returns-in-Err-clause-takes : goal.returns-in-Err-clause-takes
@@ -28,12 +28,12 @@ returns-in-Err-clause-takes c =
     rw c.refuse.ensures.over (record {
       printed = refused_text 22 0;
       laid = subst (λ at. Laid c.args.out.now at (refused_text 22 0) c.refuse.result c.refuse.new.out) (sym start) c.refuse.ensures.laid;
-      law = λ i o fed. plan_full p.text p.begins i o (into c.args.self.now.phase (Plan p.text p.begins) p.is i o fed) c.args.line.now (lacks_room 16383 p.text c.args.line.now 23 c.in-Err.ensures.0) (none_line p.begins c.args.line.now c.requires.0 some);
+      law = λ i o fed. plan_full p.text p.begins i o (into c.args.self.now.progress (Plan p.text p.begins) p.is i o fed) c.args.line.now (lacks_room 16383 p.text c.args.line.now 23 c.in-Err.ensures.0) (none_line p.begins c.args.line.now c.requires.0 some);
     })
 
 pub returns-in-Over-clause-takes : goal.returns-in-Over-clause-takes
 returns-in-Over-clause-takes c = record {
   printed = [];
   laid = laid_none c.args.out.now c.args.at;
-  law = λ i o fed. into Over c.args.self.now.phase (sym c.in-Over.is) _ _ (over_stays i o c.args.line.now (into c.args.self.now.phase Over c.in-Over.is i o fed));
+  law = λ i o fed. into Over c.args.self.now.progress (sym c.in-Over.is) _ _ (over_stays i o c.args.line.now (into c.args.self.now.progress Over c.in-Over.is i o fed));
 }

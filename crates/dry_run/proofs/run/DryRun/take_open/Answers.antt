@@ -4,7 +4,7 @@ use Rattle.byte_vec.proofs.Room.{has_room, lacks_room}
 use Rattle.dry_run.specs.Said.{refused_text}
 use Rattle.event.specs.Laid.{Laid}
 use Rattle.dry_run.specs.Steps.{reserve_in, WaitsIn}
-use Rattle.dry_run.specs.declared.run.Phase.TheVariants.{Plan, Events, Over}
+use Rattle.dry_run.specs.declared.run.Progress.TheVariants.{Plan, Events, Over}
 use Rattle.dry_run.proofs.Bytes.{none_plain, begins_some}
 use Rattle.dry_run.proofs.Steps.{into, laid_none, over_stays, plan_keeps, plan_full, event_keeps}
 use Rattle.dry_run.proofs.run.DryRun.take_open.Goals as goal
@@ -16,7 +16,7 @@ returns-in-Ok-clause-takes c =
     rw c.in-Ok.ensures.1 (record {
       printed = [];
       laid = subst (λ at. Laid c.args.out.now at [] 0 c.args.out.now) (sym start) (laid_none c.args.out.now 0);
-      law = λ i o fed. plan_keeps p.text p.begins i o (into c.args.self.now.phase (Plan p.text p.begins) p.is i o fed) c.args.bytes.now false (has_room 16383 p.text c.args.bytes.now c.in-Ok.ensures.0) (none_plain p.begins c.args.bytes.now c.requires.0) (begins_some p.begins c.args.bytes.now c.requires.0 (omega arith));
+      law = λ i o fed. plan_keeps p.text p.begins i o (into c.args.self.now.progress (Plan p.text p.begins) p.is i o fed) c.args.bytes.now false (has_room 16383 p.text c.args.bytes.now c.in-Ok.ensures.0) (none_plain p.begins c.args.bytes.now c.requires.0) (begins_some p.begins c.args.bytes.now c.requires.0 (omega arith));
     })
 
 pub returns-in-Err-clause-takes : goal.returns-in-Err-clause-takes
@@ -26,14 +26,14 @@ returns-in-Err-clause-takes c =
     rw c.refuse.ensures.over (record {
       printed = refused_text 22 0;
       laid = subst (λ at. Laid c.args.out.now at (refused_text 22 0) c.refuse.result c.refuse.new.out) (sym start) c.refuse.ensures.laid;
-      law = λ i o fed. plan_full p.text p.begins i o (into c.args.self.now.phase (Plan p.text p.begins) p.is i o fed) c.args.bytes.now (lacks_room 16383 p.text c.args.bytes.now 23 c.in-Err.ensures.0) (none_plain p.begins c.args.bytes.now c.requires.0);
+      law = λ i o fed. plan_full p.text p.begins i o (into c.args.self.now.progress (Plan p.text p.begins) p.is i o fed) c.args.bytes.now (lacks_room 16383 p.text c.args.bytes.now 23 c.in-Err.ensures.0) (none_plain p.begins c.args.bytes.now c.requires.0);
     })
 
 pub returns-in-Events-clause-takes : goal.returns-in-Events-clause-takes
 returns-in-Events-clause-takes c = let p = c.in-Events in record {
   printed = [];
   laid = laid_none c.args.out.now c.args.at;
-  law = λ i o fed. event_keeps p.controller p.line i o (into c.args.self.now.phase (Events p.controller p.line) p.is i o fed) c.keep_front.new.line c.args.bytes.now c.requires.0 c.keep_front.ensures;
+  law = λ i o fed. event_keeps p.controller p.line i o (into c.args.self.now.progress (Events p.controller p.line) p.is i o fed) c.keep_front.new.line c.args.bytes.now c.requires.0 c.keep_front.ensures;
 }
 
 pub returns-in-Events-clause-few : goal.returns-in-Events-clause-few
@@ -45,5 +45,5 @@ pub returns-in-Over-clause-takes : goal.returns-in-Over-clause-takes
 returns-in-Over-clause-takes c = record {
   printed = [];
   laid = laid_none c.args.out.now c.args.at;
-  law = λ i o fed. into Over c.args.self.now.phase (sym c.in-Over.is) _ _ (over_stays i o c.args.bytes.now (into c.args.self.now.phase Over c.in-Over.is i o fed));
+  law = λ i o fed. into Over c.args.self.now.progress (sym c.in-Over.is) _ _ (over_stays i o c.args.bytes.now (into c.args.self.now.progress Over c.in-Over.is i o fed));
 }
