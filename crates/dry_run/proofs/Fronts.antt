@@ -1,5 +1,5 @@
 -- What was printed so far is the front of whatever is printed in the end.
-use Rattle.std.proofs.Common.{◌≡◌, ℕ, ◌⊎◌, ◌+◌, List, [], ◌∷◌, ◌++◌, length, take, drop, Some, None, Ok, Err, Option, OnErr, Result, sym, refl, ap, ◌∙◌, subst, inl, inr, ⊎_elim, append_assoc, append-nil, arith}
+use Rattle.std.proofs.Common.{◌≡◌, ℕ, ◌⊎◌, ◌+◌, ◌≤◌, List, [], ◌∷◌, ◌++◌, length, take, drop, Some, None, Ok, Err, Option, OnErr, Result, sym, refl, ap, ◌∙◌, subst, inl, inr, ⊎_elim, append_assoc, append-nil, arith, length-append}
 use Rattle.std.proofs.lemmas.List.{length_push, take_at}
 use Rattle.std.proofs.Math.Seq.{take-append_seam}
 use Rattle.std.proofs.KnownBytes.{Appends-nil, Consumes-nil, starts_with_rest}
@@ -14,9 +14,9 @@ use Rattle.text.specs.Lines.{lines_of}
 use Rattle.dry_run.specs.Banks.{PlanBanks, meaning}
 use Rattle.event.specs.Laid.{Laid}
 use Rattle.dry_run.specs.Fed.{FedIn, Fed}
-use Rattle.dry_run.specs.Played.{Has, Played, PlayedInPart}
-use Rattle.dry_run.specs.Plays.{Replays, none, unreadable, answered, Plays, PrintedBy, Printed}
-use Rattle.dry_run.specs.Said.{part_verdict, verdict, behind_plan, preamble_text}
+use Rattle.dry_run.specs.Played.{Has, Played, PlayedInPart, ReadsAsNeeded}
+use Rattle.dry_run.specs.Plays.{Replays, none, unreadable, answered, Plays, PrintedBy, Printed, SettledBy}
+use Rattle.dry_run.specs.Said.{GoesOn, part_verdict, verdict, behind_plan, preamble_text}
 use Rattle.dry_run.specs.declared.run.DryRun.{DryRun}
 use Rattle.dry_run.specs.declared.run.Progress.{Progress}
 use Rattle.dry_run.specs.declared.run.Progress.TheVariants.{Plan, Events, Over}
@@ -133,7 +133,19 @@ has_all None after read c e = tt
 has_all (Some xs) None read c e = absurd c
 has_all (Some xs) (Some ys) read c e = c ∙ (ap (λ zs. read ++ zs) e ∙ append-nil read)
 
-module _ (before after old new : Option (List ℕ)) (d : DryRun) (read out : List ℕ) (consumed : Consumes before after read) (fed : Fed d read out) where
+-- as much was read as more might be printed behind, or one piece more
+pub needed_all : (read : List ℕ) → GoesOn read → ReadsAsNeeded read
+needed_all read on = record { ahead = read; front = starts read read ([], sym (append-nil read)); goes_on = on; piece = omega arith }
+
+pub needed_piece : (read piece : List ℕ) → GoesOn read → length piece ≤ 4096 → ReadsAsNeeded (read ++ piece)
+needed_piece read piece on few = record {
+  ahead = read;
+  front = starts read (read ++ piece) (piece, refl);
+  goes_on = on;
+  piece = omega (arith, few, length-append read piece);
+}
+
+module _ (before after old new : Option (List ℕ)) (d : DryRun) (read out : List ℕ) (consumed : Consumes before after read) (fed : Fed d read out) (needed : ReadsAsNeeded read) where
   -- it stops where a dry run has taken what was read, and the front of what it printed was written
   pub stops : (written : List ℕ) → StartsWith out written → Appends old new written → PlayedInPart before after old new
   stops written begins appended = record {
@@ -141,6 +153,7 @@ module _ (before after old new : Option (List ℕ)) (d : DryRun) (read out : Lis
     has = has_rest before after read consumed;
     read = read;
     consumed = consumed;
+    needed = needed;
     written = written;
     appended = appended;
     front = λ whole q. starts written whole (front_trans written out whole (front_of written out begins) (front_in d.progress read out (known after) whole fed q));
@@ -151,9 +164,12 @@ module _ (before after old new : Option (List ℕ)) (d : DryRun) (read out : Lis
   finishes last says only ended appended = record {
     input = read;
     has = has_all before after read consumed ended;
+    read = read;
+    front = starts read read ([], sym (append-nil read));
     consumed = consumed;
-    ended = ended;
+    needed = needed;
     printed = out ++ last;
+    ended = inl (ended, refl);
     appended = appended;
     answers = says;
     only = only;
@@ -165,9 +181,26 @@ module _ (before after old new : Option (List ℕ)) (d : DryRun) (read out : Lis
     has = has_all before after read consumed ended;
     read = read;
     consumed = consumed;
+    needed = needed;
     written = out ++ written;
     appended = appended;
     front = λ whole q. starts (out ++ written) whole (subst (λ x. Front (out ++ written) x) (sym (only whole q)) (front_behind out written last (front_of written last begins)));
+  }
+
+  -- nothing more can be printed
+  pub settles : SettledBy read out → Appends old new out → Played before after old new
+  settles settled appended = record {
+    input = read ++ known after;
+    has = has_rest before after read consumed;
+    read = read;
+    front = starts read (read ++ known after) (known after, refl);
+    consumed = consumed;
+    needed = needed;
+    printed = out;
+    ended = inr settled;
+    appended = appended;
+    answers = settled (known after);
+    only = λ other q. one_print (read ++ known after) other out q (settled (known after));
   }
 
 -- WHAT A CALL LAID
@@ -191,6 +224,7 @@ nothing_written before old = record {
   has = has_rest before before [] (Consumes-nil before);
   read = [];
   consumed = Consumes-nil before;
+  needed = needed_all [] (inl refl);
   written = [];
   appended = Appends-nil old;
   front = λ whole q. refl;

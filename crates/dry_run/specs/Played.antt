@@ -1,26 +1,37 @@
 -- A whole input from a reader, and what was appended to a writer.
-use Rattle.std.specs.Prelude.{◌≡◌, ◌≢◌, ℕ, List, ◌++◌, IfSome, Option}
+use Rattle.std.specs.Prelude.{◌≡◌, ◌≢◌, ◌⊎◌, ℕ, ◌+◌, ◌≤◌, List, ◌++◌, length, IfSome, Option}
 use Rattle.std.specs.Io.{StartsWith}
 use Rattle.std.specs.Io.KnownBytes.{Appends, Consumes, IsAtEnd}
 use Rattle.std.specs.IoError.{error_kind}
 use Rattle.std.specs.declared.io.Error.{Error}
 use Rattle.std.specs.declared.io.ErrorKind.TheVariants.{Interrupted}
 use Rattle.dry_run.specs.Fed.{Fed}
-use Rattle.dry_run.specs.Plays.{Printed}
+use Rattle.dry_run.specs.Plays.{Printed, SettledBy}
+use Rattle.dry_run.specs.Said.{GoesOn}
 use Rattle.dry_run.specs.declared.run.DryRun.{DryRun}
 
 -- where the bytes of a reader are known, its input is they
 abbrev pub Has : Option (List ℕ) → List ℕ → Type 0
 Has before input = IfSome before (λ bytes. bytes ≡ input)
 
--- all that a reader had was read, and what is printed of it was appended to what a writer held.
--- Nothing else can be printed of it
+-- no more is read than is needed: behind all of it but one piece, more might have been printed
+pub record ReadsAsNeeded (read : List ℕ) : Type 0 where
+  pub ahead : List ℕ
+  pub front : StartsWith read ahead
+  pub goes_on : GoesOn ahead
+  pub piece : length read ≤ length ahead + 4096
+
+-- what is printed of all that a reader had was appended to what a writer held. Nothing else can be
+-- printed of it. All of it was read, or what was read settles what is printed
 pub record Played (before after old new : Option (List ℕ)) : Type 0 where
   pub input : List ℕ
   pub has : Has before input
-  pub consumed : Consumes before after input
-  pub ended : IsAtEnd after
+  pub read : List ℕ
+  pub front : StartsWith input read
+  pub consumed : Consumes before after read
+  pub needed : ReadsAsNeeded read
   pub printed : List ℕ
+  pub ended : (IsAtEnd after × (read ≡ input)) ⊎ SettledBy read printed
   pub appended : Appends old new printed
   pub answers : Printed input printed
   pub only : (other : List ℕ) → Printed input other → other ≡ printed
@@ -32,6 +43,7 @@ pub record PlayedInPart (before after old new : Option (List ℕ)) : Type 0 wher
   pub has : Has before input
   pub read : List ℕ
   pub consumed : Consumes before after read
+  pub needed : ReadsAsNeeded read
   pub written : List ℕ
   pub appended : Appends old new written
   pub front : (whole : List ℕ) → Printed input whole → StartsWith whole written

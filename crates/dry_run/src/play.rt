@@ -1,12 +1,14 @@
 //! A dry run from any reader to any writer.
-ghost use Rattle.std.specs.Prelude.{◌≡◌, ◌↔◌, ◌<◌, ◌+◌, ◌*◌, ◌≤◌, length};
+ghost use Rattle.std.specs.Prelude.{◌≡◌, ◌↔◌, ℕ, ◌<◌, ◌+◌, ◌*◌, ◌≤◌, true, false, List, length};
 ghost use Rattle.std.specs.Prelude.{IfErr, IfOk, IsErr, IsTrue, OnErr, OnOk, vec_len};
-ghost use Rattle.dry_run.specs.Fed.{Ends, Takes};
+ghost use Rattle.dry_run.specs.Fed.{Ends, Fed, Takes};
 ghost use Rattle.dry_run.specs.Played.{Goes, Stops, Finishes, Breaks, Played, PlayedInPart};
 ghost use Rattle.dry_run.specs.Played.{NotInterrupted};
+ghost use Rattle.dry_run.specs.Plays.{SettledBy};
+ghost use Rattle.dry_run.specs.Said.{GoesOn};
 
 use crate::read::read_piece;
-use crate::run::DryRun;
+use crate::run::{DryRun, Phase};
 use crate::tries::{TRIES, too_many_tries};
 use crate::write::write_front;
 use std::alloc::Global;
@@ -75,6 +77,16 @@ fn is_end(read: usize) -> bool
     read == 0
 }
 
+// Whether nothing more can be printed, however the input goes on.
+fn is_over(run: &DryRun) -> bool
+    ensures over { result ≡ true
+        → (input out : List ℕ) → Fed run.now input out → SettledBy input out }
+    ensures goes_on { result ≡ false
+        → (input out : List ℕ) → Fed run.now input out → GoesOn input }
+{
+    run.phase() == Phase::Over
+}
+
 // The tries ran out before the input did.
 fn out_of_tries() -> io::Result<()>
     ensures failed { IsErr result }
@@ -91,7 +103,8 @@ fn play_pieces<R: Read, W: Write>(
     room: &mut [u8],
     out: &mut [u8],
 ) -> io::Result<()>
-    requires { (0 < length room.old) × (10 * length room.old + 1040 ≤ length out.old) }
+    requires { (0 < length room.old) × (length room.old ≤ 4096)
+        × (10 * length room.old + 1040 ≤ length out.old) }
     ensures ok { OnOk result (Played (R.remaining reader.old) (R.remaining reader.new)
         (W.contents writer.old) (W.contents writer.new)) }
     ensures err { OnErr result (PlayedInPart (R.remaining reader.old) (R.remaining reader.new)
@@ -106,6 +119,9 @@ fn play_pieces<R: Read, W: Write>(
             return play_end(&run, out, writer);
         }
         play_piece(&mut run, &room[..n], out, writer)?;
+        if is_over(&run) {
+            return Ok(());
+        }
     }
     out_of_tries()
 }
@@ -118,12 +134,15 @@ fn memory(alloc: Global, size: usize) -> io::Result<Vec<u8>>
     Ok(vec![in alloc; 0u8; size]?)
 }
 
-/// Reads an input to its end, and writes what is printed of it, each piece as soon as it is read.
+/// Reads an input, and writes what is printed of it, each piece as soon as it is read: to its end,
+/// or up to the piece in which its plan is refused, since nothing is printed of what follows that.
 /// It has two buffers of its own, and does not flush the writer.
 ///
-/// Where it ends well, all that the reader had was read, and what the writer holds more is what is
-/// printed of it, and nothing else could be. Where it ends in an error, what the writer holds more
-/// is the front of whatever could be printed of all that the reader had.
+/// Where it ends well, what the writer holds more is what is printed of all that the reader had,
+/// and nothing else could be: all of that was read, or what was read settles what is printed,
+/// whatever comes behind. Where it ends in an error, what the writer holds more is the front of
+/// whatever could be printed of all that the reader had. In both cases no more is read than is
+/// needed, but for the rest of one piece, of 4,096 bytes at most.
 ///
 /// An interrupted read or write is tried again, so no error is `Interrupted`. The first read or
 /// write that fails otherwise ends it with its own error. A write that takes nothing is

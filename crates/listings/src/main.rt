@@ -102,9 +102,21 @@ fn prints(heap: Global, input: &[u8], wanted: &[u8]) -> io::Result<bool>
     gives_in_pieces(heap, input, input.len(), wanted)
 }
 
+// Whether a reader that fails in mid-stream ends it in that error, with the front of what must be
+// printed written; or is not read so far, since the plan is refused before, with all of it written.
+fn breaks_off(heap: Global, mut reader: PieceReader<'_>, wanted: &[u8]) -> bool {
+    let mut writer = writer_in(heap);
+    match play(heap, &mut reader, &mut writer) {
+        Ok(()) => wanted.starts_with(b"plan,no,") && writer.taken.as_slice() == wanted,
+        Err(e) => {
+            e.kind() == ErrorKind::ConnectionReset && wanted.starts_with(writer.taken.as_slice())
+        }
+    }
+}
+
 // Whether a reader that fails in mid-stream, a writer that does, and one that then takes nothing,
 // end it in that error, with the front of what must be printed written: of the writers the half
-// that they took.
+// that they took. A reader does not fail where its plan is refused before.
 fn stops(heap: Global, input: &[u8], wanted: &[u8]) -> bool {
     let half = wanted.len() / 2;
     let mut pieces = reader_of(input, 6);
@@ -114,14 +126,7 @@ fn stops(heap: Global, input: &[u8], wanted: &[u8]) -> bool {
     full.fails = true;
     let mut closed = writer_in(heap);
     closed.room = half;
-    breaks(
-        heap,
-        pieces,
-        writer_in(heap),
-        wanted,
-        ErrorKind::ConnectionReset,
-    )
-    .is_some()
+    breaks_off(heap, pieces, wanted)
         && breaks(
             heap,
             reader_of(input, 6),
