@@ -11,9 +11,11 @@ use std::io::ErrorKind;
 use std::{env, fs, io};
 
 mod reader;
+mod whole;
 mod writer;
 
 use reader::PieceReader;
+use whole::gives_whole;
 use writer::PieceWriter;
 
 // A reader that gives at most `more` bytes and one more at a time.
@@ -81,8 +83,8 @@ fn gives_in_pieces(heap: Global, input: &[u8], more: usize, wanted: &[u8]) -> io
     gives(heap, reader_of(input, more), writer_in(heap), wanted)
 }
 
-// Whether an input prints what it must: in pieces of 1 to 19 bytes and whole, and in pieces that
-// are interrupted and written a few bytes at a time.
+// Whether an input prints what it must: in pieces of 1 to 19 bytes, in pieces that are interrupted
+// and written a few bytes at a time, in pieces as large as the loop takes them, and at once.
 fn prints(heap: Global, input: &[u8], wanted: &[u8]) -> io::Result<bool>
     ensures { IfOk result (λ same. IsTrue same ↔ Printed input.now wanted.now) }
 {
@@ -99,7 +101,10 @@ fn prints(heap: Global, input: &[u8], wanted: &[u8]) -> io::Result<bool>
     if !gives(heap, pieces, taken, wanted)? {
         return Ok(false);
     }
-    gives_in_pieces(heap, input, input.len(), wanted)
+    if !gives_in_pieces(heap, input, input.len(), wanted)? {
+        return Ok(false);
+    }
+    gives_whole(heap, input, wanted)
 }
 
 // Whether a reader that fails in mid-stream ends it in that error, with the front of what must be
