@@ -80,7 +80,7 @@ Tells ReadsEvents input out =
     × ((more : List ℕ) → verdict (input ++ more) ≡ Ok c)
 Tells ReadsNothing input out = SettledBy input out
 
--- the dry run that has come so far
+-- the dry run that has this progress
 abbrev pub run_in : Progress → DryRun
 run_in progress = record { progress = progress }
 

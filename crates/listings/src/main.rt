@@ -28,6 +28,7 @@ fn reader_of(input: &[u8], more: usize) -> PieceReader<'_>
         interrupts: false,
         interrupted: false,
         fails_at: None,
+        failed: false,
     }
 }
 
@@ -112,7 +113,9 @@ fn prints(heap: Global, input: &[u8], wanted: &[u8]) -> io::Result<bool>
 fn breaks_off(heap: Global, mut reader: PieceReader<'_>, wanted: &[u8]) -> bool {
     let mut writer = writer_in(heap);
     match play(heap, &mut reader, &mut writer) {
-        Ok(()) => wanted.starts_with(b"plan,no,") && writer.taken.as_slice() == wanted,
+        Ok(()) => {
+            !reader.failed && wanted.starts_with(b"plan,no,") && writer.taken.as_slice() == wanted
+        }
         Err(e) => {
             e.kind() == ErrorKind::ConnectionReset && wanted.starts_with(writer.taken.as_slice())
         }

@@ -15,6 +15,8 @@ pub struct PieceReader<'a> {
     pub interrupted: bool,
     // a read fails where no more than this many bytes are left, if there is such a number
     pub fails_at: Option<usize>,
+    // whether a read has failed
+    pub failed: bool,
 }
 
 impl Read for PieceReader<'_> {
@@ -29,6 +31,7 @@ impl Read for PieceReader<'_> {
         }
         if let Some(left) = self.fails_at {
             if self.rest.len() <= left {
+                self.failed = true;
                 return Err(Error::from(ErrorKind::ConnectionReset));
             }
         }

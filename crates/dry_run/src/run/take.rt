@@ -37,7 +37,8 @@ fn accept(plan: &Plan, out: &mut [u8]) -> (Controller<PlanBanks>, usize)
 // The controller of a plan that an empty line ended, if the plan is accepted, and the end of what is printed.
 fn behind_plan(text: &[u8], out: &mut [u8]) -> (Option<Controller<PlanBanks>>, usize)
     requires { 1040 ≤ length out.old }
-    ensures takes { Takes (run_in (InPlan text.now true)) (run_in (progress_behind result.0)) (10 ∷ []) out.old 0 result.1 out.new }
+    ensures takes { Takes (run_in (InPlan text.now true)) (run_in (progress_behind result.0))
+        (10 ∷ []) out.old 0 result.1 out.new }
     ensures few { result.1 ≤ 1040 }
 {
     let mut plan = Plan::new();
@@ -111,8 +112,8 @@ fn keep(text: &mut ByteVec<16383>, bytes: &[u8]) -> Result<(), Full>
     text.extend_from_slice(bytes)
 }
 
-// A whole `Progress` is made outside of what takes a line, where the room for one would be taken for
-// each line.
+// A whole `Progress` is made outside of what takes a line, where the room for one would be taken
+// for each line.
 impl DryRun {
     // No empty line has come in time.
     fn refuse(&mut self, out: &mut [u8]) -> usize

@@ -120,7 +120,7 @@ impl Plan {
         self.tables.resources.len()
     }
 
-    /// A resource, if it exists. It is for 1 to 64 holders.
+    /// A resource, if it exists. In mode W it is for 1 to 64 holders.
     #[tactic(auto, using(crate::proofs::KeepsLimits::few_holders))]
     pub fn resource(&self, resource: usize) -> Option<Resource>
         ensures value { result ≡ resource_at (plan_contents self.now) resource }
