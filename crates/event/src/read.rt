@@ -22,20 +22,24 @@ fn letter_mode(letter: u8) -> Option<Mode>
 }
 
 // The call that a letter and fields are.
+// The fields stand first: their number is known where the line ends, and the letter is told then.
 #[tactic(auto, using(std::proofs::lemmas::Bool::Decides::nat_tests))]
 #[inline(always)]
 fn form(letter: u8, fields: &[Field]) -> Option<Call>
     ensures { result ≡ event_of_fields (letter, fields.now) }
 {
-    match (letter as char, fields) {
-        ('N', [Field::Number(task)]) => Some(Call::Release(*task)),
+    match (fields, letter as char) {
+        ([], 'K') => Some(Call::Tick),
+        ([Field::Number(task)], 'N') => Some(Call::Release(*task)),
+        ([Field::Number(task)], 'G') => Some(Call::Give(*task)),
+        ([Field::Number(task)], 'F') => Some(Call::Finish(*task)),
         (
-            'A',
             [
                 Field::Number(task),
                 Field::Number(resource),
                 Field::Letter(mode),
             ],
+            'A',
         ) => {
             let mode = letter_mode(*mode)?;
             Some(Call::Ask {
@@ -44,9 +48,6 @@ fn form(letter: u8, fields: &[Field]) -> Option<Call>
                 mode,
             })
         }
-        ('G', [Field::Number(task)]) => Some(Call::Give(*task)),
-        ('F', [Field::Number(task)]) => Some(Call::Finish(*task)),
-        ('K', []) => Some(Call::Tick),
         _ => None,
     }
 }

@@ -6,22 +6,23 @@ use text::field::{FIELDS, Field, read_fields};
 use text::refusal::Refusal;
 
 // The item that a letter and fields are.
+// The fields stand first: their number is known where the line ends, and the letter is told then.
 #[tactic(auto, using(std::proofs::lemmas::Bool::Decides::nat_tests))]
 fn form(letter: u8, fields: &[Field]) -> Option<Item>
     ensures { result ≡ item_of (letter, fields.now) }
 {
-    match (letter as char, fields) {
-        ('C', [Field::Number(c)]) => Some(Item::Cluster(*c)),
-        ('S', [Field::Number(k)]) => Some(Item::Slots(*k)),
-        ('W', []) => Some(Item::ReaderWriter),
-        ('T', [Field::Number(g)]) => Some(Item::Task(*g)),
+    match (fields, letter as char) {
+        ([], 'W') => Some(Item::ReaderWriter),
+        ([Field::Number(c)], 'C') => Some(Item::Cluster(*c)),
+        ([Field::Number(k)], 'S') => Some(Item::Slots(*k)),
+        ([Field::Number(g)], 'T') => Some(Item::Task(*g)),
         (
-            'L',
             [
                 Field::Number(task),
                 Field::Number(resource),
                 Field::Number(ticks),
             ],
+            'L',
         ) => {
             Some(Item::Length {
                 task: *task,

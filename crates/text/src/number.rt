@@ -1,7 +1,5 @@
-ghost use Rattle.std.specs.Prelude.{◌≡◌, ℕ, ◌+◌, ◌<◌, ◌≤◌, true, ◌++◌, length, drop, Some, None, decimal, slice_index};
-ghost use Rattle.std.specs.Char.{is_ascii_digit};
-ghost use Rattle.std.specs.List.{prefix_len};
-ghost use Rattle.text.specs.Numbers.{value_of, read_number, IsWritten, ReadsBack};
+ghost use Rattle.std.specs.Prelude.{◌≡◌, ◌+◌, ◌≤◌, ◌++◌, length, drop, Some, None, decimal};
+ghost use Rattle.text.specs.Numbers.{read_number, IsWritten, ReadsBack};
 ghost use Rattle.text.specs.Memory.{Writes, Appends};
 
 use crate::memory::{put_bytes, write_bytes};
@@ -15,42 +13,27 @@ pub const DIGITS: usize = 5;
 /// Numbers that are read are below this one: it is the first that has a digit more.
 pub const NUMBER_END: u32 = 100_000;
 
-// How many digits stand at the head of a text.
-fn count_digits(s: &[u8]) -> usize
-    ensures counted { result ≡ prefix_len is_ascii_digit s.now }
-    ensures within { result ≤ length s.now }
-{
-    s.iter().take_while(|b| b.is_ascii_digit()).count()
-}
-
-// The number that a few digits write.
-#[tactic(auto, using(crate::proofs::Fronts::digit_range, std::proofs::lemmas::List::Sums::fold_more, std::proofs::lemmas::Grind::common_steps))]
-fn value(s: &[u8]) -> u32
-    requires { (length s.now ≤ DIGITS) × (((k : ℕ) → k < length s.now → is_ascii_digit (slice_index s.now k) ≡ true)) }
-    ensures { result ≡ value_of s.now }
-{
-    let mut v: u32 = 0;
-    for b in s {
-        v = 10 * v + (*b - b'0') as u32;
-    }
-    v
-}
-
 // The number at the head of a text, and how many digits it has.
-#[tactic(auto, using(crate::proofs::Fronts::front_digits, crate::proofs::Fronts::front_count, std::proofs::lemmas::Grind::common_steps))]
+#[tactic(auto, using(crate::proofs::Fronts::digit_range, std::proofs::lemmas::List::Sums::fold_more, std::proofs::lemmas::Grind::common_steps))]
+#[inline(always)]
 fn head_number(s: &[u8]) -> Option<(u32, usize)>
     ensures read { read_number s.now ≡ elim result [ None ↦ None | Some p ↦ Some (p.0, drop p.1 s.now) ] }
     ensures within { elim result [ None ↦ Unit {0} | Some p ↦ p.1 ≤ length s.now ] }
 {
-    // A number has at most DIGITS digits: of a longer run only one digit more is looked at.
-    let n = count_digits(&s[..s.len().min(DIGITS + 1)]);
-    if n < 1 || n > DIGITS {
+    let mut v: u32 = 0;
+    let mut n = 0;
+    while n < s.len() && s[n].is_ascii_digit() {
+        // A number has at most DIGITS digits: of a longer run only one digit more is looked at.
+        if n == DIGITS {
+            return None;
+        }
+        v = 10 * v + (s[n] - b'0') as u32;
+        n += 1;
+    }
+    if n == 0 || s[0] == b'0' && n != 1 {
         return None;
     }
-    if s[0] == b'0' && n != 1 {
-        return None;
-    }
-    Some((value(&s[0..n]), n))
+    Some((v, n))
 }
 
 // The number at the head of a text, and the rest of the text, by the digits alone.
