@@ -8,6 +8,7 @@ use text::refusal::Refusal;
 // The item that a letter and fields are.
 // The fields stand first: their number is known where the line ends, and the letter is told then.
 #[tactic(auto, using(std::proofs::lemmas::Bool::Decides::nat_tests))]
+#[inline(always)]
 fn form(letter: u8, fields: &[Field]) -> Option<Item>
     ensures { result ≡ item_of (letter, fields.now) }
 {
@@ -35,6 +36,7 @@ fn form(letter: u8, fields: &[Field]) -> Option<Item>
 }
 
 // The item that a line is, if it has one of the five forms.
+#[inline(always)]
 fn read_item(line: &[u8]) -> Option<Item>
     ensures { result ≡ read_item line.now }
 {
@@ -56,6 +58,7 @@ impl TryFrom<&[u8]> for Item {
 impl Item {
     /// The item that a line is, its newline included. A line of none of the five forms is refused.
     #[tactic(auto, using(crate::proofs::Lines::is_line_of))]
+    #[inline(always)]
     pub fn read(line: &[u8]) -> Result<Item, Refusal>
         ensures { ReadsItem line.now result }
     {
