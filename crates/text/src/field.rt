@@ -50,6 +50,10 @@ pub fn read_fields(line: &[u8], fields: &mut [Field; FIELDS]) -> Option<(u8, usi
     ensures image { HasFields line.now (fields_of line.now) }
 {
     let (letter, mut rest) = line.split_first()?;
+    // A letter alone is told before the loop, so that it pays for no field.
+    if is_newline(rest) {
+        return Some((*letter, 0));
+    }
     let mut count = 0;
     while !is_newline(rest) {
         if count == FIELDS {

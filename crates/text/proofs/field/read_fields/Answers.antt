@@ -8,6 +8,9 @@ use Rattle.text.proofs.field.read_fields.Goals as goal
 pub loop-rest-init : goal.loop-rest-init
 loop-rest-init c = (found_none _ _ _ _ c.in_ok-letter.ensures.cases.0 refl, omega arith, search rules)
 
+pub returns-then-is_newline-clause-read : goal.returns-then-is_newline-clause-read
+returns-then-is_newline-clause-read c = found_end _ _ _ _ (found_none _ _ _ _ c.in_ok-letter.ensures.cases.0 refl) (sym c.if-is_newline.ensures)
+
 pub returns-then-count-eq-FIELDS-clause-read : goal.returns-then-count-eq-FIELDS-clause-read
 returns-then-count-eq-FIELDS-clause-read c =
     let some = length-take-le c.loop-rest.count c.loop-rest.fields (omega arith) in
